@@ -1,0 +1,9 @@
+pub mod Order
+pub mod Nonneg
+pub mod Finite
+pub mod Middle
+pub mod Zero
+pub mod Interval
+pub mod Average
+pub mod Bits
+pub mod Whole

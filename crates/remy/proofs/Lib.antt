@@ -1,0 +1,5 @@
+pub mod Halves
+pub mod Window
+pub mod Partition
+pub mod Lens
+pub mod Paper

@@ -1,0 +1,29 @@
+// A point of a sender's memory.
+ghost use mathlib.Core.Path.{_≡_};
+ghost use Rattle.remy.specs.Cube.{usualEnds, pointOf};
+use quantities::TimeSpan;
+
+pub struct Point {
+    pub ack_ewma: TimeSpan,
+    pub send_ewma: TimeSpan,
+    pub rtt_ratio: f64,
+}
+
+impl Point {
+    pub fn new(ack_ewma: f64, send_ewma: f64, rtt_ratio: f64) -> Point
+        ensures { λ r. ⌜ r ≡ pointOf «ack_ewma» «send_ewma» «rtt_ratio» ⌝ }
+    {
+        Point {
+            ack_ewma: TimeSpan(ack_ewma),
+            send_ewma: TimeSpan(send_ewma),
+            rtt_ratio,
+        }
+    }
+
+    // The upper ends of the usual root cube.
+    pub fn usual_ends() -> Point
+        ensures { λ r. ⌜ r ≡ usualEnds ⌝ }
+    {
+        Point::new(600.0, 600.0, 1000.0)
+    }
+}
