@@ -1,0 +1,143 @@
+-- The loader accepts exactly the records of accepted trainers: what it accepts is written again as the same bytes, and what an accepted
+-- trainer writes it accepts. Assumes nothing.
+use mathlib.Core.Path.{_≡_, refl, sym, ap, subst, _∙_}
+use mathlib.Core.Bool.{Bool, true, false, cond}
+use mathlib.Core.List.{List, [], _∷_}
+use Prim.Native.Nat.{ℕ, _+_, _<_}
+use native.Mathlib.Omega.{arith}
+use borrow.Author.Tests.{eqb-true, ltb-true}
+use lib.Dec.{eqb, ltb}
+use Rattle.floats.proofs.Bits.{read-fits}
+use Rattle.rule_tree.specs.declared.Node.{Node}
+use Rattle.rule_tree.specs.Nodes.{noNode, nodeAt, nodeCount, parentWith, blankNode}
+use Rattle.rule_tree.proofs.Lists.{length-tabulate, getD-tabulate}
+use Rattle.rule_tree.proofs.Counting.{and-left, and-right}
+use Rattle.rule_tree.proofs.Links.{grown-leaf-valid}
+use Rattle.rule_tree.proofs.Plain.{ActionFits}
+use Rattle.trainer.specs.declared.Trainer.{Trainer}
+use Rattle.trainer.specs.declared.Answered.{Answered}
+use Rattle.trainer.specs.State.{acceptedOf}
+use Rattle.trainer.specs.Phases.{taken, refuse}
+use Rattle.trainer.specs.Calls.{blankTrainer}
+use Rattle.record.specs.Bytes.{sameBytes}
+use Rattle.record.specs.Write.{recordOf}
+use Rattle.record.specs.Read.{actionAt, flagAt, linkOf, leafAtPlace, payloadPlace, nodeAtPlace, splitCount, readOf}
+use Rattle.record.specs.Calls.{lengthHolds, versionHolds, bodyHolds, loadOf}
+use Rattle.promise.specs.Values.{FitAction}
+use Rattle.promise.proofs.Unembed.{TrainerFits, accepted-grown}
+use Rattle.promise.proofs.EveryTrainer.{valid-fits, none-fits, ends-fit, load-back}
+
+pub same-bytes : (xs ys : List ℕ) → sameBytes xs ys ≡ true → xs ≡ ys
+unfolding sameBytes
+same-bytes [] [] h = refl
+same-bytes [] (y ∷ ys) h = absurd (let z : _≡_ {A = ℕ} 0 1 = cc in omega arith)
+same-bytes (x ∷ xs) [] h = absurd (let z : _≡_ {A = ℕ} 0 1 = cc in omega arith)
+same-bytes (x ∷ xs) (y ∷ ys) h =
+    let e = eqb-true x y (and-left (eqb x y) _ h) in
+    let r = same-bytes xs ys (and-right (eqb x y) _ h) in
+    λ i. e i ∷ r i
+
+-- ---- what a load that is not refused found
+held-parts : (bytes : List ℕ) → bodyHolds bytes ≡ true → (acceptedOf (readOf bytes) ≡ true) × (sameBytes (recordOf (readOf bytes)) bytes ≡ true)
+unfolding bodyHolds
+held-parts bytes h = (and-left (acceptedOf (readOf bytes)) _ h, and-right (acceptedOf (readOf bytes)) _ h)
+
+not-refused :
+    (r : Trainer) (x y z : Bool)
+    → cond x (cond y (cond z (taken r) (refuse 8 blankTrainer)) (refuse 7 blankTrainer)) (refuse 6 blankTrainer) .refused ≡ 0
+    → (z ≡ true) × (cond x (cond y (cond z (taken r) (refuse 8 blankTrainer)) (refuse 7 blankTrainer)) (refuse 6 blankTrainer) ≡ taken r)
+not-refused r true true true h = (refl, refl)
+not-refused r true true false h = absurd (omega (arith, h))
+not-refused r true false z h = absurd (omega (arith, h))
+not-refused r false y z h = absurd (omega (arith, h))
+
+load-found : (bytes : List ℕ) → loadOf bytes .refused ≡ 0 → (bodyHolds bytes ≡ true) × (loadOf bytes ≡ taken (readOf bytes))
+unfolding loadOf
+load-found bytes h = not-refused (readOf bytes) (lengthHolds bytes) (versionHolds bytes) (bodyHolds bytes) h
+
+-- ---- what is read is of its types
+action-typed : (bytes : List ℕ) (at : ℕ) → FitAction (actionAt bytes at)
+action-typed bytes at = record { multiplier = read-fits _; delay = read-fits _ }
+
+-- the node that is read where a leaf stands
+abbrev leafRead : List ℕ → ℕ → ℕ → Node
+leafRead bytes s i = record { action = actionAt bytes (payloadPlace bytes s i); children = 0; optimized = flagAt bytes (payloadPlace bytes s i + 20) }
+
+node-place :
+    (bytes : List ℕ) (s i : ℕ)
+    → nodeAtPlace bytes s i ≡ cond (ltb i (nodeCount s)) (cond (leafAtPlace bytes s i) (leafRead bytes s i) (parentWith (linkOf bytes s i))) blankNode
+unfolding nodeAtPlace
+node-place bytes s i = refl
+
+module _ (bytes : List ℕ) (a : acceptedOf (readOf bytes) ≡ true) where
+  node-typed : (i : ℕ) → i < 513 → ActionFits (nodeAt (readOf bytes .tree .nodes) i .action)
+  node-typed i l =
+      let s = splitCount bytes in
+      go (ltb i (nodeCount s)) refl (leafAtPlace bytes s i) (getD-tabulate 513 i (nodeAtPlace bytes s) noNode l ∙ node-place bytes s i)
+    where
+      x : Node
+      x = nodeAt (readOf bytes .tree .nodes) i
+
+      go :
+          (y : Bool) → ltb i (nodeCount (splitCount bytes)) ≡ y → (z : Bool)
+          → x ≡ cond y (cond z (leafRead bytes (splitCount bytes) i) (parentWith (linkOf bytes (splitCount bytes) i))) blankNode
+          → ActionFits (x .action)
+      go true p true e =
+          valid-fits (x .action)
+          (grown-leaf-valid (readOf bytes .tree) (accepted-grown (readOf bytes) a) i (ltb-true i (nodeCount (splitCount bytes)) p) (ap (λ (n : Node). n .children) e))
+          (subst (λ (n : Node). FitAction (n .action)) (sym e) (action-typed bytes (payloadPlace bytes (splitCount bytes) i)))
+      go true p false e = subst (λ (n : Node). ActionFits (n .action)) (sym e) none-fits
+      go false p z e = subst (λ (n : Node). ActionFits (n .action)) (sym e) none-fits
+
+  read-typed : TrainerFits (readOf bytes)
+  read-typed =
+      record {
+        sized = length-tabulate 513 (nodeAtPlace bytes (splitCount bytes));
+        nodes = node-typed;
+        ends = ends-fit;
+        settings =
+            record {
+              least = action-typed bytes 18;
+              most = action-typed bytes 38;
+              initial = action-typed bytes 58;
+              largest = action-typed bytes 78;
+              default = action-typed bytes 98;
+            };
+        best = read-fits _;
+        score = read-fits _;
+      }
+
+-- ---- what a load accepts
+pub load-accepted : (bytes : List ℕ) → loadOf bytes .refused ≡ 0 → acceptedOf (loadOf bytes .trainer) ≡ true
+load-accepted bytes h =
+    let p = load-found bytes h in ap (λ (r : Answered). acceptedOf (r .trainer)) (p .1) ∙ held-parts bytes (p .0) .0
+
+pub load-typed : (bytes : List ℕ) → loadOf bytes .refused ≡ 0 → TrainerFits (loadOf bytes .trainer)
+load-typed bytes h =
+    let p = load-found bytes h in
+    subst (λ (r : Answered). TrainerFits (r .trainer)) (sym (p .1)) (read-typed bytes (held-parts bytes (p .0) .0))
+
+pub load-written : (bytes : List ℕ) → loadOf bytes .refused ≡ 0 → recordOf (loadOf bytes .trainer) ≡ bytes
+load-written bytes h =
+    let p = load-found bytes h in
+    ap (λ (r : Answered). recordOf (r .trainer)) (p .1) ∙ same-bytes (recordOf (readOf bytes)) bytes (held-parts bytes (p .0) .1)
+
+-- "the trainer that wrote it" is accepted
+pub written-loads : (t : Trainer) → acceptedOf t ≡ true → TrainerFits t → loadOf (recordOf t) .refused ≡ 0
+written-loads t a f = ap (λ (r : Answered). r .refused) (load-back t a f)
+
+-- ---- bytes are accepted exactly when they are the record of an accepted trainer
+pub record RecordOf (bytes : List ℕ) (t : Trainer) : Type 0 where
+  pub accepted : acceptedOf t ≡ true
+  pub typed : TrainerFits t
+  pub written : recordOf t ≡ bytes
+
+pub accepts-records : (bytes : List ℕ) → loadOf bytes .refused ≡ 0 → RecordOf bytes (loadOf bytes .trainer)
+accepts-records bytes h = record { accepted = load-accepted bytes h; typed = load-typed bytes h; written = load-written bytes h }
+
+pub records-accepted : (bytes : List ℕ) (t : Trainer) → RecordOf bytes t → loadOf bytes ≡ taken t
+records-accepted bytes t r = ap loadOf (sym (r .written)) ∙ load-back t (r .accepted) (r .typed)
+
+-- no two accepted trainers have one record
+pub record-once : (t u : Trainer) → acceptedOf t ≡ true → TrainerFits t → acceptedOf u ≡ true → TrainerFits u → recordOf t ≡ recordOf u → t ≡ u
+record-once t u a f b g e = ap (λ (r : Answered). r .trainer) (sym (load-back t a f) ∙ ap loadOf e ∙ load-back u b g)

@@ -1,0 +1,144 @@
+-- A valid plain tree stays valid, and what it says of its leaves is what the trainer's tree says. Assumes nothing.
+use mathlib.Core.Path.{_≡_, refl, sym, ap, subst, _∙_}
+use mathlib.Core.Bool.{Bool, true, false, not, _&&_}
+use mathlib.Core.Logic.{⊎-elim, _≢_}
+use mathlib.Core.List.{List, [], _∷_}
+use Prim.Native.Nat.{ℕ, _+_, _-_, _*_, _<_, _≤_}
+use native.Mathlib.Nat.{eq-or-lt-of-le}
+use native.Mathlib.Omega.{arith}
+use borrow.Author.Tests.{ne-eqb, ltb-true, ltb-false}
+use lib.Dec.{ltb, eqb}
+use lib.ListN.{length, getD, set, take, replicate, length-append, length-set, length-map, length-replicate, List·getD-append}
+use lib.Seq.{getD-set-same, getD-set-other, getD-append-seam, take-append-le, take-append-seam}
+use Rattle.remy.specs.declared.action.Action.{Action}
+use Rattle.remy.specs.Action.{validOf}
+use Rattle.rule_tree.specs.declared.Node.{Node}
+use Rattle.rule_tree.specs.Nodes.{nodeAt}
+use Rattle.rule_tree.specs.Calls.{leafIn}
+use Rattle.promise.specs.PlainTree.{Tree, Rule, nodes, member, isLeaf, ruleAt, unmarked, rootLeaf, split, setAction, mark, clearMarks}
+use Rattle.promise.proofs.Links.{no, same-or, link, link-owner, member-old, member-new}
+use Rattle.promise.proofs.Embed.{leafNode, embedTree, ValidTree, leaf-below, leaf-unsplit, leaf-from, node-leaf, node-parent, embed-at}
+use Rattle.promise.proofs.TreeSteps.{noRule, new-rule, cleared-rule}
+
+-- ---- what the trainer's tree says of a node
+module _ (t : Tree) (v : ValidTree t) (i : ℕ) where
+  pub children-is : i < nodes t → eqb (nodeAt (embedTree t .nodes) i .children) 0 ≡ not (member i (t .splits))
+  children-is b = go (member i (t .splits)) refl
+    where
+      go : (m : Bool) → member i (t .splits) ≡ m → eqb (nodeAt (embedTree t .nodes) i .children) 0 ≡ not m
+      go true e =
+          let o = link-owner 0 (t .splits) i e in
+          ap (λ (x : Node). eqb (x .children) 0) (embed-at t i (omega (arith, v .few)) ∙ node-parent t i b e)
+          ∙ ne-eqb (link 0 (t .splits) i) 0 (λ z. absurd (omega (arith, o .gives)))
+      go false e = ap (λ (x : Node). eqb (x .children) 0) (embed-at t i (omega (arith, v .few)) ∙ node-leaf t i b e)
+
+  pub leaf-embeds : leafIn (embedTree t) i ≡ isLeaf t i
+  leaf-embeds = go (ltb i (nodes t)) refl
+    where
+      go : (z : Bool) → ltb i (nodes t) ≡ z → z && eqb (nodeAt (embedTree t .nodes) i .children) 0 ≡ z && not (member i (t .splits))
+      go true e = children-is (ltb-true i (nodes t) e)
+      go false e = refl
+
+  pub leaf-node : isLeaf t i ≡ true → nodeAt (embedTree t .nodes) i ≡ leafNode (ruleAt t i)
+  leaf-node l = embed-at t i (omega (arith, leaf-below t i l, v .few)) ∙ node-leaf t i (leaf-below t i l) (leaf-unsplit t i l)
+
+-- ---- a new tree
+pub root-valid : (a : Action) → validOf a ≡ true → ValidTree (rootLeaf a)
+root-valid a h =
+    record {
+      few = omega arith;
+      sized = refl;
+      grew = λ k l. absurd (omega arith);
+      once = λ k l. absurd (omega arith);
+      actions =
+          λ i l. let b = leaf-below (rootLeaf a) i l in
+          let e : i ≡ 0 = omega arith in
+          subst (λ (m : ℕ). validOf (ruleAt (rootLeaf a) m .action) ≡ true) (sym e) h;
+    }
+
+-- ---- the same splits
+same-splits :
+    (t u : Tree) → ValidTree t → u .splits ≡ t .splits → length (u .rules) ≡ length (t .rules)
+    → ((i : ℕ) → isLeaf t i ≡ true → validOf (ruleAt u i .action) ≡ true) → ValidTree u
+same-splits t u v e n h =
+    record {
+      few = rw e (v .few);
+      sized = n ∙ v .sized ∙ ap (λ (ps : List ℕ). 1 + 8 * length ps) (sym e);
+      grew = rw e (v .grew);
+      once = rw e (v .once);
+      actions = λ i l. h i (ap (λ (ps : List ℕ). ltb i (1 + 8 * length ps) && not (member i ps)) (sym e) ∙ l);
+    }
+
+module _ (t : Tree) (v : ValidTree t) (i : ℕ) (l : isLeaf t i ≡ true) where
+  stored-valid : (r : Rule) → validOf (r .action) ≡ true → ValidTree (record { splits = t .splits; rules = set (t .rules) i r })
+  stored-valid r h =
+      same-splits t (record { splits = t .splits; rules = set (t .rules) i r }) v refl (length-set (t .rules) i r)
+      (λ j b. ⊎-elim
+      (λ (p : j ≡ i). subst (λ (m : ℕ). validOf (getD (set (t .rules) i r) m noRule .action) ≡ true) (sym p)
+      (ap (λ (x : Rule). validOf (x .action)) (getD-set-same (t .rules) i r noRule (omega (arith, leaf-below t i l, v .sized))) ∙ h))
+      (λ (n : j ≢ i). ap (λ (x : Rule). validOf (x .action)) (getD-set-other (t .rules) i j r noRule n) ∙ v .actions j b)
+      (same-or j i))
+
+  pub action-valid : (a : Action) → validOf a ≡ true → ValidTree (setAction t i a)
+  action-valid a h = stored-valid (record { action = a; marked = ruleAt t i .marked }) h
+
+  pub mark-valid : ValidTree (mark t i)
+  mark-valid = stored-valid (record { action = ruleAt t i .action; marked = true }) (v .actions i l)
+
+pub clear-valid : (t : Tree) → ValidTree t → ValidTree (clearMarks t)
+clear-valid t v =
+    same-splits t (clearMarks t) v refl (length-map (t .rules) (λ (r : Rule). unmarked (r .action)))
+    (λ i l. ap (λ (r : Rule). validOf (r .action)) (cleared-rule t i) ∙ v .actions i l)
+
+-- ---- one split more
+module _ (t : Tree) (v : ValidTree t) (i : ℕ) (l : isLeaf t i ≡ true) (r : length (t .splits) < 64) where
+  more : length (split t i .splits) ≡ length (t .splits) + 1
+  more = length-append (t .splits) (i ∷ [])
+
+  split-grew : (k : ℕ) → k < length (split t i .splits) → getD (split t i .splits) k 0 ≤ 8 * k
+  split-grew k b =
+      ⊎-elim
+      (λ (p : k ≡ length (t .splits)). subst (λ (m : ℕ). getD (split t i .splits) m 0 ≤ 8 * m) (sym p)
+      (omega (arith, getD-append-seam (t .splits) i [] 0, leaf-below t i l)))
+      (λ (q : k < length (t .splits)). omega (arith, List·getD-append (t .splits) (i ∷ []) 0 k q, v .grew k q))
+      (eq-or-lt-of-le (omega (arith, more)))
+
+  split-once : (k : ℕ) → k < length (split t i .splits) → member (getD (split t i .splits) k 0) (take k (split t i .splits)) ≡ false
+  split-once k b =
+      ⊎-elim
+      (λ (p : k ≡ length (t .splits)). subst (λ (m : ℕ). member (getD (split t i .splits) m 0) (take m (split t i .splits)) ≡ false) (sym p)
+      (ap (λ (x : ℕ). member x (take (length (t .splits)) (split t i .splits))) (getD-append-seam (t .splits) i [] 0)
+      ∙ ap (member i) (take-append-seam (t .splits) (i ∷ []))
+      ∙ leaf-unsplit t i l))
+      (λ (q : k < length (t .splits)). ap (λ (x : ℕ). member x (take k (split t i .splits))) (List·getD-append (t .splits) (i ∷ []) 0 k q)
+      ∙ ap (member (getD (t .splits) k 0)) (take-append-le k (t .splits) (i ∷ []) (omega arith))
+      ∙ v .once k q)
+      (eq-or-lt-of-le (omega (arith, more)))
+
+  split-action : (j : ℕ) → isLeaf (split t i) j ≡ true → validOf (ruleAt (split t i) j .action) ≡ true
+  split-action j b = go (ltb j (nodes t)) refl
+    where
+      n : j ≢ i
+      n e = no (member i (split t i .splits)) (member-new (t .splits) i) (subst (λ (m : ℕ). member m (split t i .splits) ≡ false) e (leaf-unsplit (split t i) j b))
+
+      go : (z : Bool) → ltb j (nodes t) ≡ z → validOf (ruleAt (split t i) j .action) ≡ true
+      go true e =
+          let c = ltb-true j (nodes t) e in
+          ap (λ (x : Rule). validOf (x .action)) (List·getD-append (t .rules) (replicate 8 (unmarked (ruleAt t i .action))) noRule j (omega (arith, v .sized)))
+          ∙ v .actions j (leaf-from t j c (sym (member-old (t .splits) i j n) ∙ leaf-unsplit (split t i) j b))
+      go false e =
+          let a = ltb-false j (nodes t) e in
+          let c = leaf-below (split t i) j b in
+          let p : 8 * length (t .splits) + 1 + (j - (8 * length (t .splits) + 1)) ≡ j = omega arith in
+          subst (λ (m : ℕ). validOf (ruleAt (split t i) m .action) ≡ true) p
+          (ap (λ (x : Rule). validOf (x .action)) (new-rule t i v (j - (8 * length (t .splits) + 1)) (omega (arith, more))) ∙ v .actions i l)
+
+  pub split-valid : ValidTree (split t i)
+  split-valid =
+      record {
+        few = omega (arith, more);
+        sized = omega (arith, more, v .sized, length-append (t .rules) (replicate 8 (unmarked (ruleAt t i .action))), length-replicate 8 (unmarked (ruleAt t i .action)));
+        grew = split-grew;
+        once = split-once;
+        actions = split-action;
+      }

@@ -1,0 +1,230 @@
+-- Each change of a plain tree is that change of the trainer's tree. Assumes nothing.
+use mathlib.Core.Path.{_≡_, refl, sym, ap, subst, _∙_}
+use mathlib.Core.Bool.{Bool, true, false, cond}
+use mathlib.Core.Logic.{⊎-elim, _⊎_, _≢_}
+use mathlib.Core.List.{List, [], _∷_, _++_}
+use Prim.Native.Nat.{ℕ, _+_, _-_, _*_, _<_, _≤_}
+use native.Mathlib.Omega.{arith}
+use borrow.Author.Tests.{lt-ltb, le-ltb, ne-eqb, ltb-true, ltb-false}
+use lib.Dec.{ltb}
+use lib.ListN.{length, getD, set, replicate, length-append, length-set, getD-replicate, List·getD-append, List·getD-map}
+use lib.Seq.{getD-set-same, getD-set-other, getD-append-add}
+use lib.IntN.{pos}
+use Rattle.remy.specs.declared.action.Action.{Action}
+use Rattle.remy.specs.Action.{actionOf}
+use Rattle.remy.specs.Cube.{usualEnds, zero}
+use Rattle.rule_tree.specs.declared.Node.{Node}
+use Rattle.rule_tree.specs.declared.RuleTree.{RuleTree}
+use Rattle.rule_tree.specs.Nodes.{noNode, nodeAt, leafWith, parentWith, blankNode, nodeCount}
+use Rattle.rule_tree.specs.Change.{freshTree, withAction, withMark, withoutMarks, unmarkedNode, splitAt}
+use Rattle.rule_tree.proofs.Changing.{split-length, split-splits, split-ends, split-parent, split-child, split-other, clear-length, clear-at, fresh-length}
+use Rattle.promise.specs.PlainTree.{Tree, Rule, nodes, member, isLeaf, ruleAt, unmarked, rootLeaf, split, setAction, mark, clearMarks}
+use Rattle.promise.proofs.Links.{same-or, link, link-owner, link-old, link-new, member-old, member-new}
+use Rattle.promise.proofs.Embed.{leafNode, nodeOf, embedTree, ValidTree, leaf-below, leaf-unsplit, parent-below, node-leaf, node-parent, node-blank, embed-at, embed-length, nodes-same, tree-same}
+
+abbrev pub noRule : Rule
+noRule = unmarked (actionOf zero (pos 0) zero)
+
+-- a node that the same splits and the same rule make
+node-same :
+    (t u : Tree) (i : ℕ) → ltb i (nodes t) ≡ ltb i (nodes u) → member i (t .splits) ≡ member i (u .splits)
+    → link 0 (t .splits) i ≡ link 0 (u .splits) i → (i < nodes u → ruleAt t i ≡ ruleAt u i) → nodeOf t i ≡ nodeOf u i
+unfolding nodeOf
+node-same t u i a b c d = rw (a, b, c) (go (ltb i (nodes u)) refl)
+  where
+    go :
+        (z : Bool) → ltb i (nodes u) ≡ z
+        → cond z (cond (member i (u .splits)) (parentWith (link 0 (u .splits) i)) (leafNode (ruleAt t i))) blankNode
+        ≡ cond z (cond (member i (u .splits)) (parentWith (link 0 (u .splits) i)) (leafNode (ruleAt u i))) blankNode
+    go true e = rw (d (ltb-true i (nodes u) e))
+    go false e = refl
+
+-- a node that no split has made is no parent
+pub new-unsplit : (t : Tree) → ValidTree t → (j : ℕ) → nodes t ≤ j → member j (t .splits) ≡ false
+new-unsplit t v j b = go (member j (t .splits)) refl
+  where
+    go : (z : Bool) → member j (t .splits) ≡ z → member j (t .splits) ≡ false
+    go true e = absurd (omega (arith, parent-below t j v e))
+    go false e = e
+
+pub new-rule : (t : Tree) (i : ℕ) → ValidTree t → (k : ℕ) → k < 8 → ruleAt (split t i) (8 * length (t .splits) + 1 + k) ≡ unmarked (ruleAt t i .action)
+new-rule t i v k b =
+    let new = replicate 8 (unmarked (ruleAt t i .action)) in
+    ap (λ (m : ℕ). getD (t .rules ++ new) m noRule) (omega (arith, v .sized))
+    ∙ getD-append-add (t .rules) new k noRule
+    ∙ getD-replicate 8 k (unmarked (ruleAt t i .action)) noRule b
+
+-- ---- a split
+module _ (t : Tree) (i : ℕ) (v : ValidTree t) (l : isLeaf t i ≡ true) (r : length (t .splits) < 64) where
+  abbrev old : RuleTree
+  old = embedTree t
+
+  grown-nodes : nodes (split t i) ≡ nodes t + 8
+  grown-nodes = omega (arith, length-append (t .splits) (i ∷ []))
+
+  leaf-now : nodeAt (old .nodes) i ≡ leafNode (ruleAt t i)
+  leaf-now =
+      let b = leaf-below t i l in
+      embed-at t i (omega arith) ∙ node-leaf t i b (leaf-unsplit t i l)
+
+  at-split : nodeOf (split t i) i ≡ nodeAt (splitAt old i .nodes) i
+  at-split =
+      let b = leaf-below t i l in
+      node-parent (split t i) i (omega (arith, grown-nodes)) (member-new (t .splits) i)
+      ∙ ap parentWith (link-new 0 (t .splits) i (leaf-unsplit t i l) ∙ omega arith)
+      ∙ sym (split-parent old i (omega (arith, embed-length t)) b)
+
+  at-new : (k : ℕ) → k < 8 → nodeOf (split t i) (8 * length (t .splits) + 1 + k) ≡ nodeAt (splitAt old i .nodes) (8 * length (t .splits) + 1 + k)
+  at-new k b =
+      let j = 8 * length (t .splits) + 1 + k in
+      let c = leaf-below t i l in
+      node-leaf (split t i) j (omega (arith, grown-nodes)) (member-old (t .splits) i j (λ e. absurd (omega arith)) ∙ new-unsplit t v j (omega arith))
+      ∙ ap leafNode (new-rule t i v k b)
+      ∙ ap (λ (x : Node). leafWith (x .action)) (sym leaf-now)
+      ∙ sym (split-child old i (omega (arith, embed-length t)) k b)
+
+  at-old :
+      (j : ℕ) → j < 513 → j ≢ i → (j < nodeCount (length (t .splits))) ⊎ (nodeCount (length (t .splits) + 1) ≤ j)
+      → nodeOf (split t i) j ≡ nodeAt (splitAt old i .nodes) j
+  at-old j b n o =
+      node-same (split t i) t j
+      (⊎-elim (λ (p : j < nodeCount (length (t .splits))). lt-ltb j (nodes (split t i)) (omega (arith, grown-nodes)) ∙ sym (lt-ltb j (nodes t) p))
+      (λ (p : nodeCount (length (t .splits) + 1) ≤ j). le-ltb j (nodes (split t i)) (omega (arith, grown-nodes)) ∙ sym (le-ltb j (nodes t) (omega arith))) o)
+      (member-old (t .splits) i j n)
+      (link-old 0 (t .splits) i j n)
+      (λ p. List·getD-append (t .rules) (replicate 8 (unmarked (ruleAt t i .action))) noRule j (omega (arith, v .sized)))
+      ∙ sym (embed-at t j b)
+      ∙ sym (split-other old i j n o)
+
+  at-any : (j : ℕ) → j < 513 → nodeOf (split t i) j ≡ nodeAt (splitAt old i .nodes) j
+  at-any j b =
+      ⊎-elim (λ (p : j ≡ i). subst (λ (m : ℕ). nodeOf (split t i) m ≡ nodeAt (splitAt old i .nodes) m) (sym p) at-split)
+      (λ (n : j ≢ i). go n (ltb j (nodes t)) refl (ltb j (nodes t + 8)) refl) (same-or j i)
+    where
+      go :
+          j ≢ i → (x : Bool) → ltb j (nodes t) ≡ x → (y : Bool) → ltb j (nodes t + 8) ≡ y → nodeOf (split t i) j ≡ nodeAt (splitAt old i .nodes) j
+      go n true p y q = at-old j b n (_⊎_.inl (ltb-true j (nodes t) p))
+      go n false p true q =
+          let a = ltb-false j (nodes t) p in
+          let c = ltb-true j (nodes t + 8) q in
+          let e : 8 * length (t .splits) + 1 + (j - (8 * length (t .splits) + 1)) ≡ j = omega arith in
+          subst (λ (m : ℕ). nodeOf (split t i) m ≡ nodeAt (splitAt old i .nodes) m) e (at-new (j - (8 * length (t .splits) + 1)) (omega arith))
+      go n false p false q = at-old j b n (_⊎_.inr (omega (arith, ltb-false j (nodes t + 8) q)))
+
+  pub split-embeds : embedTree (split t i) ≡ splitAt (embedTree t) i
+  split-embeds =
+      tree-same (embedTree (split t i)) (splitAt old i)
+      (nodes-same (embedTree (split t i) .nodes) (splitAt old i .nodes) (embed-length (split t i)) (split-length old i ∙ embed-length t)
+      (λ j b. embed-at (split t i) j b ∙ at-any j b))
+      (length-append (t .splits) (i ∷ []) ∙ sym (split-splits old i))
+      (sym (split-ends old i))
+
+-- ---- one leaf's rule replaced
+module _ (t u : Tree) (i : ℕ) (v : ValidTree t) (l : isLeaf t i ≡ true) (e : u .splits ≡ t .splits) (y : Node) where
+  stored-at :
+      leafNode (ruleAt u i) ≡ y → ((j : ℕ) → j ≢ i → ruleAt u j ≡ ruleAt t j) → (j : ℕ) → j < 513
+      → nodeOf u j ≡ nodeAt (set (embedTree t .nodes) i y) j
+  stored-at p q j b =
+      ⊎-elim
+      (λ (w : j ≡ i). subst (λ (m : ℕ). nodeOf u m ≡ nodeAt (set (embedTree t .nodes) i y) m) (sym w)
+      (node-leaf u i (subst (λ (ps : List ℕ). i < 1 + 8 * length ps) (sym e) (leaf-below t i l)) (ap (member i) e ∙ leaf-unsplit t i l)
+      ∙ p
+      ∙ sym (getD-set-same (embedTree t .nodes) i y noNode (omega (arith, leaf-below t i l, v .few, embed-length t)))))
+      (λ (n : j ≢ i). node-same u t j (ap (λ (ps : List ℕ). ltb j (1 + 8 * length ps)) e) (ap (member j) e) (ap (λ (ps : List ℕ). link 0 ps j) e) (λ c. q j n)
+      ∙ sym (embed-at t j b)
+      ∙ sym (getD-set-other (embedTree t .nodes) i j y noNode n))
+      (same-or j i)
+
+  pub stored-embeds :
+      leafNode (ruleAt u i) ≡ y → ((j : ℕ) → j ≢ i → ruleAt u j ≡ ruleAt t j)
+      → embedTree u ≡ record { nodes = set (embedTree t .nodes) i y; splits = length (t .splits); ends = usualEnds }
+  stored-embeds p q =
+      tree-same (embedTree u) _
+      (nodes-same (embedTree u .nodes) (set (embedTree t .nodes) i y) (embed-length u) (length-set (embedTree t .nodes) i y ∙ embed-length t)
+      (λ j b. embed-at u j b ∙ stored-at p q j b))
+      (ap length e)
+      refl
+
+module _ (t : Tree) (i : ℕ) (v : ValidTree t) (l : isLeaf t i ≡ true) where
+  leaf-held : nodeAt (embedTree t .nodes) i ≡ leafNode (ruleAt t i)
+  leaf-held = embed-at t i (omega (arith, leaf-below t i l, v .few)) ∙ node-leaf t i (leaf-below t i l) (leaf-unsplit t i l)
+
+  rule-stored : (r : Rule) → getD (set (t .rules) i r) i noRule ≡ r
+  rule-stored r = getD-set-same (t .rules) i r noRule (omega (arith, leaf-below t i l, v .sized))
+
+  pub action-embeds : (a : Action) → embedTree (setAction t i a) ≡ withAction (embedTree t) i a
+  action-embeds a =
+      stored-embeds t (setAction t i a) i v l refl _
+      (ap leafNode (rule-stored (record { action = a; marked = ruleAt t i .marked }))
+      ∙ ap (λ (x : Node). record { action = a; children = x .children; optimized = x .optimized }) (sym leaf-held))
+      (λ j n. getD-set-other (t .rules) i j _ noRule n)
+
+  pub mark-embeds : embedTree (mark t i) ≡ withMark (embedTree t) i
+  mark-embeds =
+      stored-embeds t (mark t i) i v l refl _
+      (ap leafNode (rule-stored (record { action = ruleAt t i .action; marked = true }))
+      ∙ ap (λ (x : Node). record { action = x .action; children = x .children; optimized = true }) (sym leaf-held))
+      (λ j n. getD-set-other (t .rules) i j _ noRule n)
+
+-- ---- marks cleared
+clear-leaf : (r : Rule) → unmarkedNode (leafNode r) ≡ leafNode (unmarked (r .action))
+unfolding unmarkedNode
+clear-leaf r = refl
+
+clear-parent : (c : ℕ) → c ≢ 0 → unmarkedNode (parentWith c) ≡ parentWith c
+unfolding unmarkedNode
+clear-parent c n = rw (ne-eqb c 0 n)
+
+clear-blank : unmarkedNode blankNode ≡ blankNode
+unfolding unmarkedNode
+clear-blank = refl
+
+pub cleared-rule : (t : Tree) (j : ℕ) → ruleAt (clearMarks t) j ≡ unmarked (ruleAt t j .action)
+cleared-rule t j = List·getD-map (λ (r : Rule). unmarked (r .action)) (t .rules) j noRule
+
+cleared-at : (t : Tree) (j : ℕ) → nodeOf (clearMarks t) j ≡ unmarkedNode (nodeOf t j)
+cleared-at t j = go (ltb j (nodes t)) refl (member j (t .splits)) refl
+  where
+    go : (x : Bool) → ltb j (nodes t) ≡ x → (y : Bool) → member j (t .splits) ≡ y → nodeOf (clearMarks t) j ≡ unmarkedNode (nodeOf t j)
+    go true p true q =
+        let b = ltb-true j (nodes t) p in
+        let o = link-owner 0 (t .splits) j q in
+        node-parent (clearMarks t) j b q
+        ∙ sym (clear-parent (link 0 (t .splits) j) (λ e. absurd (omega (arith, o .gives))))
+        ∙ ap unmarkedNode (sym (node-parent t j b q))
+    go true p false q =
+        let b = ltb-true j (nodes t) p in
+        node-leaf (clearMarks t) j b q
+        ∙ ap leafNode (cleared-rule t j)
+        ∙ sym (clear-leaf (ruleAt t j))
+        ∙ ap unmarkedNode (sym (node-leaf t j b q))
+    go false p y q =
+        let b = ltb-false j (nodes t) p in
+        node-blank (clearMarks t) j b ∙ sym clear-blank ∙ ap unmarkedNode (sym (node-blank t j b))
+
+pub clear-embeds : (t : Tree) → embedTree (clearMarks t) ≡ withoutMarks (embedTree t)
+clear-embeds t =
+    tree-same (embedTree (clearMarks t)) (withoutMarks (embedTree t))
+    (nodes-same (embedTree (clearMarks t) .nodes) (withoutMarks (embedTree t) .nodes) (embed-length (clearMarks t)) (clear-length (embedTree t) ∙ embed-length t)
+    (λ j b. embed-at (clearMarks t) j b ∙ cleared-at t j ∙ ap unmarkedNode (sym (embed-at t j b)) ∙ sym (clear-at (embedTree t) j)))
+    refl
+    refl
+
+-- ---- the root leaf
+root-at : (a : Action) (j : ℕ) → j < 513 → nodeOf (rootLeaf a) j ≡ nodeAt (freshTree usualEnds a .nodes) j
+unfolding member
+root-at a j b =
+    ⊎-elim
+    (λ (p : j ≡ 0). subst (λ (m : ℕ). nodeOf (rootLeaf a) m ≡ nodeAt (freshTree usualEnds a .nodes) m) (sym p) (node-leaf (rootLeaf a) 0 (omega arith) refl))
+    (λ (n : j ≢ 0). node-blank (rootLeaf a) j (omega arith)
+    ∙ sym (getD-replicate 513 j blankNode noNode b)
+    ∙ sym (getD-set-other (replicate 513 blankNode) 0 j (leafWith a) noNode n))
+    (same-or j 0)
+
+pub root-embeds : (a : Action) → embedTree (rootLeaf a) ≡ freshTree usualEnds a
+root-embeds a =
+    tree-same (embedTree (rootLeaf a)) (freshTree usualEnds a)
+    (nodes-same (embedTree (rootLeaf a) .nodes) (freshTree usualEnds a .nodes) (embed-length (rootLeaf a)) (fresh-length usualEnds a)
+    (λ j b. embed-at (rootLeaf a) j b ∙ root-at a j b))
+    refl
+    refl

@@ -1,0 +1,176 @@
+-- Demand 3: what is compared and claimed over every list of calls.
+use mathlib.Core.Path.{_≡_}
+use mathlib.Core.Bool.{true, false, _&&_, cond}
+use mathlib.Core.List.{List, [], _∷_, map}
+use Prim.Native.Nat.{ℕ}
+use lib.ListN.{length, take}
+use lib.Dec.{eqb}
+use lib.Ieee.{Float}
+use Rattle.remy.specs.declared.point.Point.{Point}
+use Rattle.remy.specs.Cube.{usualEnds, rootOf, containsOf}
+use Rattle.rule_tree.specs.declared.RuleTree.{RuleTree}
+use Rattle.rule_tree.specs.declared.Looked.the-variants as looked
+use Rattle.rule_tree.specs.Nodes.{nodeAt}
+use Rattle.rule_tree.specs.Cubes.{cubeOf}
+use Rattle.rule_tree.specs.Calls.{leafIn, lookupOf}
+use Rattle.trainer.specs.declared.settings.Settings.{Settings}
+use Rattle.trainer.specs.declared.Trainer.{Trainer}
+use Rattle.trainer.specs.declared.Answered.{Answered}
+use Rattle.trainer.specs.declared.Question.{Question}
+use Rattle.trainer.specs.declared.Question.the-variants as question
+use Rattle.trainer.specs.Calls.{startOf, questionOf, answerCountsOf, answerScoreOf}
+use Rattle.record.specs.declared.Saved.{Saved}
+use Rattle.record.specs.declared.Saved.the-variants as saved
+use Rattle.record.specs.Write.{recordOf}
+use Rattle.record.specs.Calls.{saveOf, bufferAfter, loadOf}
+use Rattle.sender.specs.declared.Draw.{Draw}
+use Rattle.sender.specs.declared.Sender.{Sender}
+use Rattle.promise.specs.PlainTree.{Tree, isLeaf, ruleAt}
+use Rattle.promise.specs.PlainTrainer as plain
+use Rattle.promise.specs.PlainSender.{PlainSender, SenderCall, cubeIn, admitted, readAs, ackPoint}
+use Rattle.promise.specs.PlainSender as sender
+use Rattle.promise.specs.SenderRuns.{SenderStep, senderStep, senderEvents, senderEnd, plainStart, plainSenderEvents, plainSenderEnd, AckDoes}
+use Rattle.promise.specs.SenderRuns as runs
+
+-- ---- the trainer's calls, as their contracts have them
+pub record Step : Type 0 where
+  pub trainer : Trainer
+  pub refused : ℕ
+  pub size : ℕ
+  pub saved : List ℕ
+
+-- "Each call gets the trainer that the last one returned, or after a refusal the one that call got"
+abbrev pub afterCall : Trainer → Answered → ℕ → List ℕ → Step
+afterCall t a n bytes = record { trainer = cond (eqb (a .refused) 0) (a .trainer) t; refused = a .refused; size = n; saved = bytes }
+
+-- "A reload is a save into a lent buffer, then a load of exactly the bytes written"; "with a short buffer it is refused with 9 and the trainer stays"
+unfoldable pub reloaded : Trainer → List ℕ → Saved → Step
+reloaded t buffer (saved.Size n) =
+    let bytes = take n (bufferAfter t buffer (saved.Size n)) in
+    afterCall t (loadOf bytes) n bytes
+reloaded t buffer (saved.Refused k) = record { trainer = t; refused = k; size = 0; saved = [] }
+
+unfoldable pub stepOf : Trainer → plain.Call → Step
+unfolding reloaded
+stepOf t (plain.counts xs) = afterCall t (answerCountsOf t xs) 0 []
+stepOf t (plain.score x) = afterCall t (answerScoreOf t x) 0 []
+stepOf t (plain.reload buffer) = reloaded t buffer (saveOf t buffer)
+
+-- what is compared of a call: its refusal's number or 0, the size and the bytes of what it saved, and the question after it
+pub record Event : Type 0 where
+  pub refused : ℕ
+  pub size : ℕ
+  pub saved : List ℕ
+  pub asks : Question
+
+unfoldable pub eventsOf : Trainer → List plain.Call → List Event
+unfolding stepOf
+eventsOf t [] = []
+eventsOf t (c ∷ cs) =
+    let o = stepOf t c in
+    record { refused = o .refused; size = o .size; saved = o .saved; asks = questionOf (o .trainer) } ∷ eventsOf (o .trainer) cs
+
+unfoldable pub endOf : Trainer → List plain.Call → Trainer
+unfolding stepOf
+endOf t [] = t
+endOf t (c ∷ cs) = endOf (stepOf t c .trainer) cs
+
+-- ---- the plain trainer's
+unfoldable pub shownAs : plain.Asked → Question
+shownAs (plain.wantsCounts x) = question.Counts x
+shownAs (plain.wantsScore i a x) = question.Score i a x
+shownAs (plain.finished x) = question.Done x
+
+unfoldable pub plainEvents : plain.State → List plain.Call → List Event
+unfolding shownAs
+plainEvents st [] = []
+plainEvents st (c ∷ cs) =
+    let o = plain.step st c in
+    record { refused = o .refused; size = length (o .saved); saved = o .saved; asks = shownAs (plain.question (o .state)) }
+    ∷ plainEvents (o .state) cs
+
+unfoldable pub plainEnd : plain.State → List plain.Call → plain.State
+plainEnd st [] = st
+plainEnd st (c ∷ cs) = plainEnd (plain.step st c .state) cs
+
+-- ---- the trees on the way, "the trainer's before the first call and after each": tree k is the one after k calls, the last for any later k
+abbrev pub treeAfter : Settings → List plain.Call → ℕ → RuleTree
+treeAfter s cs k = endOf (startOf s .trainer) (take k cs) .tree
+
+abbrev pub plainTreeAfter : Settings → List plain.Call → ℕ → Tree
+plainTreeAfter s cs k = plainEnd (plain.start s) (take k cs) .tree
+
+-- p lies in leaf i and in no other, and finds its action
+pub record InLeaf (t : RuleTree) (p : Point) (i : ℕ) : Type 0 where
+  pub leaf : leafIn t i ≡ true
+  pub inside : containsOf (cubeOf t i) p ≡ true
+  pub only : (j : ℕ) → leafIn t j ≡ true → containsOf (cubeOf t j) p ≡ true → j ≡ i
+  pub found : lookupOf t p ≡ looked.Found (nodeAt (t .nodes) i .action)
+
+-- p lies in no leaf, and finds none
+pub record InNoLeaf (t : RuleTree) (p : Point) : Type 0 where
+  pub none : (j : ℕ) → leafIn t j ≡ true → containsOf (cubeOf t j) p ≡ false
+  pub nothing : lookupOf t p ≡ looked.Nothing
+
+-- "every point of the root box lies in exactly one leaf, whose action lookup gives, and any other point in none";
+-- "The root box is node 0's cube"
+pub record Parted (t : RuleTree) (p : Point) : Type 0 where
+  pub inside : containsOf (cubeOf t 0) p ≡ true → (i : ℕ) × InLeaf t p i
+  pub outside : containsOf (cubeOf t 0) p ≡ false → InNoLeaf t p
+
+-- the trainer's tree and the plain trainer's: the same root box, and the same leaves with the same cubes and actions
+pub record SameTree (t : RuleTree) (u : Tree) : Type 0 where
+  pub box : cubeOf t 0 ≡ rootOf usualEnds
+  pub leaf : (i : ℕ) → leafIn t i ≡ isLeaf u i
+  pub cube : (i : ℕ) → isLeaf u i ≡ true → cubeOf t i ≡ cubeIn u i
+  pub action : (i : ℕ) → isLeaf u i ≡ true → nodeAt (t .nodes) i .action ≡ ruleAt u i .action
+
+-- ---- a sender's calls: "Each ack is over any one of those trees", which it names by its place on the way
+pub data WayCall : Type 0 where
+  ack : ℕ → Float → Float → Draw → WayCall
+  send : Float → WayCall
+  tick : WayCall
+
+unfoldable pub callOver : (ℕ → RuleTree) → WayCall → runs.Call
+callOver trees (ack k sent received draw) = runs.ack (trees k) sent received draw
+callOver trees (send at) = runs.send at
+callOver trees tick = runs.tick
+
+unfoldable pub plainCallOver : (ℕ → Tree) → WayCall → SenderCall
+plainCallOver trees (ack k sent received draw) = sender.ack (trees k) sent received draw
+plainCallOver trees (send at) = sender.send at
+plainCallOver trees tick = sender.tick
+
+abbrev pub callsOver : (ℕ → RuleTree) → List WayCall → List runs.Call
+callsOver trees ws = map (callOver trees) ws
+
+abbrev pub plainCallsOver : (ℕ → Tree) → List WayCall → List SenderCall
+plainCallsOver trees ws = map (plainCallOver trees) ws
+
+-- the plain sender after the calls ws, and what one more call does then
+abbrev pub senderBefore : (ℕ → Tree) → Sender → List WayCall → PlainSender
+senderBefore trees start ws = plainSenderEnd (plainStart start) (plainCallsOver trees ws)
+
+abbrev pub oneMore : (ℕ → RuleTree) → Sender → List WayCall → WayCall → SenderStep
+oneMore trees start ws w = senderStep (senderEnd start (callsOver trees ws)) (callOver trees w)
+
+-- what is claimed of an ack over the tree t, s being the plain sender before it and o what it does
+pub record AckHolds (s : PlainSender) (t : Tree) (sent received : Float) (draw : Draw) (o : SenderStep) : Type 0 where
+  pub unread : admitted sent && admitted received ≡ false → o .event .refused ≡ 1
+  pub does : admitted sent && admitted received ≡ true → AckDoes s t (ackPoint s (readAs sent) (readAs received)) draw o
+
+-- ---- the claim
+pub record Demand3 (s : Settings) (cs : List plain.Call) : Type 0 where
+  pub starts : startOf s .refused ≡ 0
+  pub asks : questionOf (startOf s .trainer) ≡ shownAs (plain.question (plain.start s))
+  pub events : eventsOf (startOf s .trainer) cs ≡ plainEvents (plain.start s) cs
+  pub final : recordOf (endOf (startOf s .trainer) cs) ≡ plain.recordBytes (plainEnd (plain.start s) cs)
+  pub trees : (k : ℕ) (p : Point) → Parted (treeAfter s cs k) p
+  pub same : (k : ℕ) → SameTree (treeAfter s cs k) (plainTreeAfter s cs k)
+  pub senders :
+      (start : Sender) (ws : List WayCall)
+      → senderEvents start (callsOver (treeAfter s cs) ws) ≡ plainSenderEvents (plainStart start) (plainCallsOver (plainTreeAfter s cs) ws)
+  pub acks :
+      (start : Sender) (ws : List WayCall) (k : ℕ) (sent received : Float) (draw : Draw)
+      → AckHolds (senderBefore (plainTreeAfter s cs) start ws) (plainTreeAfter s cs k) sent received draw
+      (oneMore (treeAfter s cs) start ws (ack k sent received draw))

@@ -1,0 +1,201 @@
+-- Document 01's plain sender: the start, the history of taken acks, and the send that stands.
+use mathlib.Core.Bool.{Bool, true, false, _&&_, _||_, cond}
+use mathlib.Core.List.{List, [], _∷_, _++_, map}
+use Prim.Native.Nat.{ℕ, zero, suc}
+use lib.Dec.{leb}
+use lib.IntN.{pos}
+use lib.Ieee.{Float, fin, binary64, sub, div, le, lt, eq}
+use Rattle.floats.specs.Average.{average}
+use Rattle.quantities.specs.Time.{span, moment}
+use Rattle.quantities.specs.declared.Time.{Time}
+use Rattle.quantities.specs.declared.TimeSpan.{TimeSpan}
+use Rattle.remy.specs.declared.action.Action.{Action}
+use Rattle.remy.specs.declared.point.Point.{Point}
+use Rattle.remy.specs.declared.cube.Cube.{Cube}
+use Rattle.remy.specs.Action.{windowOf}
+use Rattle.remy.specs.Cube as cube
+use Rattle.rule_tree.specs.Cubes.{cubeAt}
+use Rattle.sender.specs.declared.Moment.{Moment}
+use Rattle.sender.specs.declared.Moment.the-variants as held
+use Rattle.sender.specs.declared.Average.{Average}
+use Rattle.sender.specs.declared.Average.the-variants as averaged
+use Rattle.sender.specs.declared.Rtt.{Rtt}
+use Rattle.sender.specs.declared.Rtt.the-variants as trips
+use Rattle.sender.specs.declared.Pending.{Pending}
+use Rattle.sender.specs.declared.Pending.the-variants.{Idle, Repeat}
+use Rattle.sender.specs.declared.RepeatMode.{RepeatMode}
+use Rattle.sender.specs.declared.RepeatMode.the-variants.{Off, Always, Between}
+use Rattle.sender.specs.declared.Draw.{Draw}
+use Rattle.sender.specs.declared.Draw.the-variants.{Absent, Given}
+use Rattle.sender.specs.declared.Sender.{Sender}
+use Rattle.promise.specs.PlainTree.{Tree, Choice, nobody, leaf, leaves, ruleAt}
+
+-- "the taken acks (those not refused)": the two moments, the action that it was served by, and what a draw left pending
+pub record TakenAck : Type 0 where
+  pub sent : Float
+  pub received : Float
+  pub action : Action
+  pub next : Pending
+
+-- "It starts fresh, or as any sender handed in, whose whole state is then the start"
+pub record PlainSender : Type 0 where
+  pub start : Sender
+  pub history : List TakenAck
+  pub standing : Moment
+
+-- ---- the averages: "the first gap, later 0.875 times the old average plus 0.125 times the gap"
+unfoldable pub blend : Average → Float → Average
+blend averaged.Empty gap = averaged.Of (span gap)
+blend (averaged.Of a) gap = averaged.Of (span (average (a .0) gap))
+
+-- over the moments after a last one
+unfoldable pub averageAfter : Average → Moment → List Float → Average
+unfolding blend
+averageAfter a last [] = a
+averageAfter a held.Never (m ∷ ms) = averageAfter a (held.At (moment m)) ms
+averageAfter a (held.At last) (m ∷ ms) = averageAfter (blend a (sub binary64 m (last .0))) (held.At (moment m)) ms
+
+-- "none counts as 0"
+unfoldable pub amount : Average → Float
+amount averaged.Empty = cube.zero
+amount (averaged.Of a) = a .0
+
+-- "Round trip = received - sent; the shortest includes it"; "A held shortest gives way only to a round trip below it"
+unfoldable pub shorter : Rtt → Float → Float
+shorter trips.Unknown r = r
+shorter (trips.Known shortest current) r = cond (lt r (shortest .0)) r (shortest .0)
+
+unfoldable pub tripsAfter : Rtt → List Float → Rtt
+unfolding shorter
+tripsAfter t [] = t
+tripsAfter t (r ∷ rs) = tripsAfter (trips.Known (span (shorter t r)) (span r)) rs
+
+-- "Ratio = current / shortest"
+unfoldable pub ratioOf : Rtt → Float
+ratioOf trips.Unknown = cube.zero
+ratioOf (trips.Known shortest current) = div binary64 (current .0) (shortest .0)
+
+abbrev pub roundTrip : TakenAck → Float
+roundTrip x = sub binary64 (x .received) (x .sent)
+
+-- the point that sent moments, received moments and round trips make of a sender
+abbrev pub pointFrom : Sender → List Float → List Float → List Float → Point
+pointFrom s sents receiveds rounds =
+    cube.pointOf (amount (averageAfter (s .«ack_ewma») (s .«last_ack») receiveds))
+    (amount (averageAfter (s .«send_ewma») (s .«last_ack_send») sents)) (ratioOf (tripsAfter (s .rtt) rounds))
+
+-- "A draw n leaves a repeat pending for the next n+1 taken acks, off for none"
+unfoldable pub pendingNext : Pending → TakenAck → Pending
+pendingNext Idle x = x .next
+pendingNext (Repeat zero a) x = Idle
+pendingNext (Repeat (suc n) a) x = Repeat n a
+
+unfoldable pub pendingAfter : Pending → List TakenAck → Pending
+unfolding pendingNext
+pendingAfter p [] = p
+pendingAfter p (x ∷ xs) = pendingAfter (pendingNext p x) xs
+
+-- the window and the wait that the taken acks set in turn
+unfoldable pub windowAfter : ℕ → List TakenAck → ℕ
+windowAfter w [] = w
+windowAfter w (x ∷ xs) = windowAfter (windowOf (x .action) w) xs
+
+unfoldable pub waitAfter : TimeSpan → List TakenAck → TimeSpan
+waitAfter wait [] = wait
+waitAfter wait (x ∷ xs) = waitAfter (x .action .«intersend_delay») xs
+
+abbrev pub pendingNow : PlainSender → Pending
+pendingNow s = pendingAfter (s .start .«next_change») (s .history)
+
+abbrev pub windowHeld : PlainSender → ℕ
+windowHeld s = windowAfter (s .start .window) (s .history)
+
+abbrev pub waitHeld : PlainSender → TimeSpan
+waitHeld s = waitAfter (s .start .«intersend_delay») (s .history)
+
+-- "The answer is 0 while a send stands, else the window"
+unfoldable pub shown : Moment → ℕ → ℕ
+shown held.Never w = w
+shown (held.At t) w = 0
+
+-- ---- the leaf that holds a point
+abbrev pub cubeIn : Tree → ℕ → Cube
+cubeIn t i = cubeAt i (t .splits) (cube.rootOf cube.usualEnds) i
+
+unfoldable pub holding : Tree → Point → List ℕ → Choice
+holding t p [] = nobody
+holding t p (i ∷ is) = cond (cube.containsOf (cubeIn t i) p) (leaf i) (holding t p is)
+
+abbrev pub leafAt : Tree → Point → Choice
+leafAt t p = holding t p (leaves t)
+
+-- ---- calls
+pub data SenderCall : Type 0 where
+  ack : Tree → Float → Float → Draw → SenderCall
+  send : Float → SenderCall
+  tick : SenderCall
+
+-- a refusal's number or 0, and the window that is handed back
+pub record Reaction : Type 0 where
+  pub sender : PlainSender
+  pub refused : ℕ
+  pub window : ℕ
+
+abbrev pub refuse : ℕ → PlainSender → Reaction
+refuse n s = record { sender = s; refused = n; window = 0 }
+
+abbrev pub answered : PlainSender → Reaction
+answered s = record { sender = s; refused = 0; window = shown (s .standing) (windowHeld s) }
+
+-- "A moment is admitted from 0 to 4,294,967,296, both included; -0 is read as +0"
+abbrev pub admitted : Float → Bool
+admitted x = le cube.zero x && le x (fin false 1 (pos 32))
+
+abbrev pub readAs : Float → Float
+readAs x = cond (eq x cube.zero) cube.zero x
+
+abbrev pub take : PlainSender → Float → Float → Action → Pending → Reaction
+take s sent received a next =
+    answered
+    (record {
+      start = s .start;
+      history = s .history ++ (record { sent = sent; received = received; action = a; next = next } ∷ []);
+      standing = s .standing;
+    })
+
+-- "then a draw is taken: off, always n, or lo..=hi handed in"; "5 a due draw absent or outside lo..=hi"
+unfoldable pub drawFor : PlainSender → Float → Float → Action → RepeatMode → Draw → Reaction
+drawFor s sent received a Off draw = take s sent received a Idle
+drawFor s sent received a (Always n) draw = take s sent received a (Repeat n a)
+drawFor s sent received a (Between lo hi) Absent = refuse 5 s
+drawFor s sent received a (Between lo hi) (Given n) = cond (leb lo n && leb n hi) (take s sent received a (Repeat n a)) (refuse 5 s)
+
+-- "Otherwise where lookup gives none, the ack is refused with 22"
+unfoldable pub lookUp : PlainSender → Tree → Choice → Float → Float → Draw → Reaction
+unfolding drawFor
+lookUp s t nobody sent received draw = refuse 22 s
+lookUp s t (leaf i) sent received draw = drawFor s sent received (ruleAt t i .action) (s .start .«repeat_actions») draw
+
+-- "An ack's point is made from the start, the taken acks before it and the ack itself"
+abbrev pub ackPoint : PlainSender → Float → Float → Point
+ackPoint s sent received =
+    pointFrom (s .start) (map (λ (x : TakenAck). x .sent) (s .history) ++ (sent ∷ []))
+    (map (λ (x : TakenAck). x .received) (s .history) ++ (received ∷ []))
+    (map roundTrip (s .history) ++ (sub binary64 received sent ∷ []))
+
+-- "With a repeat pending its action is used, no lookup"
+unfoldable pub serve : PlainSender → Tree → Pending → Float → Float → Draw → Reaction
+unfolding lookUp
+serve s t (Repeat n a) sent received draw = take s sent received a Idle
+serve s t Idle sent received draw = lookUp s t (leafAt t (ackPoint s sent received)) sent received draw
+
+abbrev pub standWith : PlainSender → Moment → PlainSender
+standWith s m = record { start = s .start; history = s .history; standing = m }
+
+-- 1, 22, 5
+unfoldable pub react : PlainSender → SenderCall → Reaction
+unfolding serve
+react s (ack t sent received draw) =
+    cond (admitted sent && admitted received) (serve s t (pendingNow s) (readAs sent) (readAs received) draw) (refuse 1 s)
+react s (send at) = cond (admitted at) (answered (standWith s (held.At (moment (readAs at))))) (refuse 1 s)
+react s tick = answered (standWith s held.Never)

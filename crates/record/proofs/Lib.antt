@@ -1,0 +1,10 @@
+pub mod Bytes
+pub mod Signed
+pub mod Stores
+pub mod Writing
+pub mod Reading
+pub mod Size
+pub mod Stands
+pub mod RoundTrip
+pub mod Loading
+pub mod CallWays

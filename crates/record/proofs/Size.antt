@@ -1,0 +1,241 @@
+-- How long a record is: a grown tree of s splits has 1 + 7 s leaves, and its record 172 + 149 s bytes. Assumes nothing.
+use mathlib.Core.Path.{_≡_, refl, sym, ap, _∙_}
+use mathlib.Core.Bool.{Bool, true, false, cond}
+use mathlib.Core.List.{List, [], _∷_, _++_, append-assoc}
+use mathlib.Core.Logic.{⊎-elim}
+use Prim.Native.Nat.{ℕ, zero, suc, _+_, _*_, _%_, _<_, _≤_}
+use native.Mathlib.Nat.{eq-or-lt-of-le}
+use native.Mathlib.Omega.{arith}
+use borrow.Author.Tests.{eq-eqb, ne-eqb}
+use lib.Dec.{eqb}
+use lib.ListN.{length, getD, take, set, length-append, length-map}
+use lib.Seq.{sets, take-suc, take-all, length-take-le}
+use Rattle.rule_tree.specs.declared.Node.{Node}
+use Rattle.rule_tree.specs.declared.RuleTree.{RuleTree}
+use Rattle.rule_tree.specs.Lists.{countBelow, occurrences}
+use Rattle.rule_tree.specs.Nodes.{nodeAt, isLeaf, nodeCount, childrenOf}
+use Rattle.rule_tree.specs.Grown.{grownOf}
+use Rattle.rule_tree.specs.Cubes.{splitNodes, ownerBelow}
+use Rattle.rule_tree.proofs.Lists.{length-tabulate}
+use Rattle.rule_tree.proofs.LinkWays.{children-at}
+use Rattle.rule_tree.proofs.Owners.{same-or-not}
+use Rattle.rule_tree.proofs.Links as links
+use Rattle.trainer.specs.declared.Trainer.{Trainer}
+use Rattle.record.specs.Bytes.{bytesOf}
+use Rattle.record.specs.Write.{settingsBytes, splitsBytes, numbersBytes, payloadBytes, stateBytes, version, bodyOf, recordOf}
+use Rattle.record.specs.Parts.{leafFields}
+use Rattle.record.proofs.Bytes.{bytes-count}
+use Rattle.record.proofs.Stores.{wrote}
+use Rattle.record.proofs.Writing.{settings-count, state-count, list-count, leaf-count}
+
+-- ---- sums over the splits
+abbrev sumBelow : ℕ → (ℕ → ℕ) → ℕ
+sumBelow zero f = 0
+sumBelow (suc n) f = f n + sumBelow n f
+
+sum-add : (n : ℕ) (f g : ℕ → ℕ) → sumBelow n (λ k. f k + g k) ≡ sumBelow n f + sumBelow n g
+sum-add zero f g = refl
+sum-add (suc n) f g = let h = sum-add n f g in omega arith
+
+sum-none : (n : ℕ) (f : ℕ → ℕ) → ((k : ℕ) → k < n → f k ≡ 0) → sumBelow n f ≡ 0
+sum-none zero f h = refl
+sum-none (suc n) f h = let a = h n (omega arith) in let b = sum-none n f (λ k l. h k (omega arith)) in omega arith
+
+sum-ones : (n : ℕ) (f : ℕ → ℕ) → ((k : ℕ) → k < n → f k ≡ 1) → sumBelow n f ≡ n
+sum-ones zero f h = refl
+sum-ones (suc n) f h = let a = h n (omega arith) in let b = sum-ones n f (λ k l. h k (omega arith)) in omega arith
+
+-- which split's first node x is
+abbrev hit : ℕ → ℕ → ℕ
+hit x k = cond (eqb x (8 * k + 1)) 1 0
+
+hit-not : (x k : ℕ) → (x ≡ 8 * k + 1 → ⊥) → hit x k ≡ 0
+hit-not x k n = ap (λ (b : Bool). cond b 1 0) (ne-eqb x (8 * k + 1) n)
+
+hit-one : (s x : ℕ) → x % 8 ≡ 1 → x < 1 + 8 * s → sumBelow s (hit x) ≡ 1
+hit-one zero x e l = absurd (omega arith)
+hit-one (suc s) x e l =
+    ⊎-elim
+    (λ (p : x ≡ 8 * s + 1).
+    let a : _≡_ {A = ℕ} (hit x s) 1 = ap (λ (b : Bool). cond b 1 0) (eq-eqb x (8 * s + 1) p) in
+    let b = sum-none s (hit x) (λ k m. hit-not x k (λ z. absurd (let w : x ≡ 8 * k + 1 = z in omega arith))) in
+    omega arith)
+    (λ (n : x ≡ 8 * s + 1 → ⊥).
+    let a = hit-not x s n in
+    let b = hit-one s x e (below s x e l n) in
+    omega arith)
+    (same-or-not x (8 * s + 1))
+  where
+    below : (s x : ℕ) → x % 8 ≡ 1 → x < 1 + 8 * suc s → (x ≡ 8 * s + 1 → ⊥) → x < 1 + 8 * s
+    below s x e l n =
+        ⊎-elim (λ (p : x ≡ 8 * s + 1). absurd (n p)) (λ (q : x < 8 * s + 1). omega arith)
+        (eq-or-lt-of-le (let q : x ≤ 8 * s + 1 = omega arith in q))
+
+-- how many nodes have children
+abbrev parents : List ℕ → ℕ
+parents [] = 0
+parents (x ∷ xs) = cond (eqb x 0) 0 1 + parents xs
+
+parents-append : (xs ys : List ℕ) → parents (xs ++ ys) ≡ parents xs + parents ys
+parents-append [] ys = omega arith
+parents-append (x ∷ xs) ys = let h = parents-append xs ys in omega arith
+
+abbrev Good : ℕ → ℕ → Type 0
+Good s x = (x ≡ 0 → ⊥) → (x % 8 ≡ 1) × (x < 1 + 8 * s)
+
+hit-good : (s x : ℕ) → Good s x → sumBelow s (hit x) ≡ cond (eqb x 0) 0 1
+hit-good s x g =
+    ⊎-elim
+    (λ (p : x ≡ 0). sum-none s (hit x) (λ k m. hit-not x k (λ z. absurd (let w : x ≡ 8 * k + 1 = z in omega arith))) ∙ sym (ap (λ (b : Bool). cond b 0 1) (eq-eqb x 0 p)))
+    (λ (n : x ≡ 0 → ⊥). hit-one s x (g n .0) (g n .1) ∙ sym (ap (λ (b : Bool). cond b 0 1) (ne-eqb x 0 n)))
+    (same-or-not x 0)
+
+-- counted by splits, and counted by nodes
+parents-are : (s : ℕ) (xs : List ℕ) → ((i : ℕ) → i < length xs → Good s (getD xs i 0)) → sumBelow s (λ k. occurrences (8 * k + 1) xs) ≡ parents xs
+unfolding occurrences
+parents-are s [] g = sum-none s (λ k. 0) (λ k l. refl)
+parents-are s (x ∷ xs) g =
+    let a = sum-add s (hit x) (λ k. occurrences (8 * k + 1) xs) in
+    let b = hit-good s x (g 0 (omega arith)) in
+    let d = parents-are s xs (λ i l. g (suc i) (omega arith)) in
+    a ∙ (omega arith)
+
+-- ---- leaves
+parent-or-leaf : (nodes : List Node) (i : ℕ) → cond (isLeaf nodes i) 1 0 + cond (eqb (getD (childrenOf nodes) i 0) 0) 0 1 ≡ 1
+parent-or-leaf nodes i =
+    ap (λ (k : ℕ). cond (isLeaf nodes i) 1 0 + cond (eqb k 0) 0 1) (children-at nodes i) ∙ one (isLeaf nodes i)
+  where
+    one : (b : Bool) → cond b 1 0 + cond b 0 1 ≡ 1
+    one true = refl
+    one false = refl
+
+count-both : (nodes : List Node) (n : ℕ) → n ≤ length nodes → countBelow n (isLeaf nodes) + parents (take n (childrenOf nodes)) ≡ n
+unfolding countBelow
+count-both nodes zero l = refl
+count-both nodes (suc n) l =
+    let cs = childrenOf nodes in
+    let h = count-both nodes n (omega arith) in
+    let m = length-map nodes (λ (x : Node). x .children) in
+    let e = ap parents (take-suc cs n 0 (omega arith)) ∙ parents-append (take n cs) (getD cs n 0 ∷ []) in
+    let p = parent-or-leaf nodes n in
+    omega arith
+
+count-tail : (f : ℕ → Bool) (m n : ℕ) → m ≤ n → ((i : ℕ) → m ≤ i → i < n → f i ≡ true) → countBelow n f + m ≡ countBelow m f + n
+unfolding countBelow
+count-tail f m zero l h = let e : m ≡ 0 = omega arith in rw e
+count-tail f m (suc n) l h =
+    ⊎-elim (λ (p : m ≡ suc n). rw p) (λ (q : m < suc n).
+    let b : m ≤ n = omega arith in
+    let e : _≡_ {A = ℕ} (cond (f n) 1 0) 1 = ap (λ (t : Bool). cond t 1 0) (h n b (omega arith)) in
+    let r = count-tail f m n b (λ i x y. h i x (omega arith)) in
+    omega arith) (eq-or-lt-of-le l)
+
+module _ (t : RuleTree) (g : grownOf t ≡ true) (full : length (t .nodes) ≡ 513) where
+  pub few : t .splits ≤ 64
+  few = links.grown-splits t g
+
+  parents-count : parents (childrenOf (t .nodes)) ≡ t .splits
+  parents-count =
+      let m = length-map (t .nodes) (λ (x : Node). x .children) in
+      sym (parents-are (t .splits) (childrenOf (t .nodes)) (λ i l n.
+      let k = links.grown-link t g i (omega arith) n in (k .first, k .inside)))
+      ∙ sum-ones (t .splits) (λ k. occurrences (8 * k + 1) (childrenOf (t .nodes))) (links.grown-occurs t g)
+
+  -- 1 + 7 s leaves among the 1 + 8 s nodes
+  pub leaves-count : countBelow (nodeCount (t .splits)) (isLeaf (t .nodes)) ≡ 1 + 7 * t .splits
+  leaves-count =
+      let s = few in
+      let m = length-map (t .nodes) (λ (x : Node). x .children) in
+      let a = count-both (t .nodes) 513 (omega arith) in
+      let b = ap parents (take-all 513 (childrenOf (t .nodes)) (omega arith)) ∙ parents-count in
+      let d = count-tail (isLeaf (t .nodes)) (nodeCount (t .splits)) 513 (omega arith)
+      (λ i x y. eq-eqb _ 0 (links.grown-unused-leaf t g i x y)) in
+      omega arith
+
+-- ---- the parts of a record
+leaf-length : (x : Node) → length (leafFields x) ≡ 21 * cond (eqb (x .children) 0) 1 0
+leaf-length x =
+    ⊎-elim (λ (e : x .children ≡ 0). leaf-count x e ∙ sym (ap (λ (b : Bool). 21 * cond b 1 0) (eq-eqb (x .children) 0 e)))
+    (λ (n : x .children ≡ 0 → ⊥). rw (ne-eqb (x .children) 0 n) refl)
+    (same-or-not (x .children) 0)
+
+pub payload-count : (v : ℕ) (nodes : List Node) (n : ℕ) → length (payloadBytes v nodes n) ≡ 21 * countBelow n (isLeaf nodes)
+unfolding payloadBytes countBelow
+payload-count v nodes zero = refl
+payload-count v nodes (suc n) =
+    let h = payload-count v nodes n in
+    let e = leaf-length (nodeAt nodes n) in
+    length-append (payloadBytes v nodes n) (leafFields (nodeAt nodes n)) ∙ (omega arith)
+
+pub splits-count : (t : RuleTree) → t .splits ≤ 64 → length (splitsBytes t) ≡ 2 + 2 * t .splits
+splits-count t l =
+    let ps = splitNodes (childrenOf (t .nodes)) in
+    let a = length-tabulate 64 (λ k. ownerBelow 513 (childrenOf (t .nodes)) (8 * k + 1)) in
+    let b = list-count (take (t .splits) ps) in
+    let d = length-take-le (t .splits) ps (omega arith) in
+    length-append (bytesOf 2 (t .splits)) (numbersBytes (take (t .splits) ps)) ∙ omega (arith, bytes-count 2 (t .splits))
+
+joined-count : (v : ℕ) (a b c d : List ℕ) → length (v ∷ (a ++ (b ++ (c ++ d)))) ≡ 1 + (length a + (length b + (length c + length d)))
+joined-count v a b c d = simp length-append (omega arith)
+
+module _ (t : Trainer) (g : grownOf (t .tree) ≡ true) (full : length (t .tree .nodes) ≡ 513) where
+  pub leaves-length : length (payloadBytes version (t .tree .nodes) (nodeCount (t .tree .splits))) ≡ 21 * (1 + 7 * t .tree .splits)
+  leaves-length =
+      payload-count version (t .tree .nodes) (nodeCount (t .tree .splits)) ∙ ap (λ (k : ℕ). 21 * k) (leaves-count (t .tree) g full)
+
+  pub body-count : length (bodyOf t) ≡ 168 + 149 * t .tree .splits
+  body-count =
+      let a = settings-count (t .settings) in
+      let b = splits-count (t .tree) (few (t .tree) g full) in
+      let d = leaves-length in
+      let e = state-count t in
+      joined-count version (settingsBytes (t .settings)) (splitsBytes (t .tree)) (payloadBytes version (t .tree .nodes) (nodeCount (t .tree .splits))) (stateBytes t)
+      ∙ (omega arith)
+
+  -- a record of s splits has 172 + 149 s bytes
+  pub record-count : length (recordOf t) ≡ 172 + 149 * t .tree .splits
+  unfolding recordOf
+  record-count = length-append (bytesOf 4 (length (bodyOf t))) (bodyOf t) ∙ omega (arith, bytes-count 4 (length (bodyOf t)), body-count)
+
+  pub record-fresh : t .tree .splits ≡ 0 → length (recordOf t) ≡ 172
+  record-fresh e = let h = record-count in omega arith
+
+  pub record-most : t .tree .splits ≡ 64 → length (recordOf t) ≡ 9708
+  record-most e = let h = record-count in omega arith
+
+  pub record-fits : length (recordOf t) ≤ 9708
+  record-fits = let h = record-count in let l = few (t .tree) g full in omega arith
+
+-- ---- the record, part after part
+wrote0 : (l m : List ℕ) (n : ℕ) (xs ys : List ℕ) {r : List ℕ} → r ≡ sets m n ys → m ≡ sets l 0 xs → length xs ≡ n → r ≡ sets l 0 (xs ++ ys)
+wrote0 l m n xs ys q p e = wrote l m 0 n xs ys (q ∙ ap (λ (k : ℕ). sets m k ys) (let z : n ≡ 0 + n = omega arith in z)) p e
+
+regroup : (b v s p q r : List ℕ) → ((((b ++ v) ++ s) ++ p) ++ q) ++ r ≡ b ++ (v ++ (s ++ (p ++ (q ++ r))))
+regroup b v s p q r = simp append-assoc
+
+module _ (l : List ℕ) (t : Trainer) (g : grownOf (t .tree) ≡ true) (full : length (t .tree .nodes) ≡ 513) where
+  pub record-written : (n at : ℕ) {l1 l2 l3 l4 l5 : List ℕ} → n ≡ 168 + 149 * t .tree .splits → l1 ≡ sets l 0 (bytesOf 4 n)
+      → l2 ≡ sets (set l1 4 1) 5 (settingsBytes (t .settings)) → l3 ≡ sets l2 118 (splitsBytes (t .tree))
+      → l4 ≡ sets l3 (120 + 2 * t .tree .splits) (payloadBytes version (t .tree .nodes) (nodeCount (t .tree .splits)))
+      → at ≡ 120 + 2 * t .tree .splits + length (payloadBytes version (t .tree .nodes) (nodeCount (t .tree .splits)))
+      → l5 ≡ sets l4 at (stateBytes t) → l5 ≡ sets l 0 (recordOf t)
+  unfolding recordOf
+  record-written n at {l1} {l2} {l3} {l4} {l5} en p q r s ea u =
+      let b = bytesOf 4 n in
+      let v = version ∷ [] in
+      let x = settingsBytes (t .settings) in
+      let y = splitsBytes (t .tree) in
+      let z = payloadBytes version (t .tree .nodes) (nodeCount (t .tree .splits)) in
+      let cb = bytes-count 4 n in
+      let cx = settings-count (t .settings) in
+      let cy = splits-count (t .tree) (few (t .tree) g full) in
+      let e1 : length (b ++ v) ≡ 5 = length-append b v ∙ (omega arith) in
+      let e2 : length ((b ++ v) ++ x) ≡ 118 = length-append (b ++ v) x ∙ (omega arith) in
+      let e3 : length (((b ++ v) ++ x) ++ y) ≡ 120 + 2 * t .tree .splits = length-append ((b ++ v) ++ x) y ∙ (omega arith) in
+      let e4 : length ((((b ++ v) ++ x) ++ y) ++ z) ≡ at = length-append (((b ++ v) ++ x) ++ y) z ∙ (omega arith) in
+      let w1 = wrote0 l l1 4 b v {r = set l1 4 1} refl p cb in
+      let w2 = wrote0 l (set l1 4 1) 5 (b ++ v) x q w1 e1 in
+      let w3 = wrote0 l l2 118 ((b ++ v) ++ x) y r w2 e2 in
+      let w4 = wrote0 l l3 (120 + 2 * t .tree .splits) (((b ++ v) ++ x) ++ y) z s w3 e3 in
+      let w5 = wrote0 l l4 at ((((b ++ v) ++ x) ++ y) ++ z) (stateBytes t) u w4 e4 in
+      w5 ∙ ap (sets l 0) (regroup b v x y z (stateBytes t)) ∙ ap (λ (k : ℕ). sets l 0 (bytesOf 4 k ++ bodyOf t)) (en ∙ sym (body-count t g full))

@@ -1,0 +1,202 @@
+-- What the writers store, part by part, is the record's own parts; and how long those are. Assumes nothing.
+use mathlib.Core.Path.{_≡_, refl, sym, ap, subst, _∙_}
+use mathlib.Core.Bool.{Bool, cond}
+use mathlib.Core.List.{List, [], _∷_, _++_, append-assoc, append-nil}
+use mathlib.Core.Logic.{⊎-elim}
+use Prim.Native.Nat.{ℕ, zero, suc, _+_, _*_, _<_, _≤_}
+use native.Mathlib.Nat.{eq-or-lt-of-le}
+use native.Mathlib.Numerals.{add-one}
+use native.Mathlib.Omega.{arith}
+use borrow.Author.Tests.{eq-eqb, ne-eqb}
+use lib.Ieee.{binary64, toBits}
+use lib.ListN.{length, getD, set, take, length-append}
+use lib.Seq.{sets, take-suc, length-take-le}
+use mir.Syntax.{w32}
+use mir.Val.{ofZ}
+use Rattle.remy.specs.declared.action.Action.{Action}
+use Rattle.rule_tree.specs.declared.Node.{Node}
+use Rattle.rule_tree.specs.declared.RuleTree.{RuleTree}
+use Rattle.rule_tree.specs.Nodes.{nodeAt, childrenOf}
+use Rattle.rule_tree.specs.Cubes.{splitNodes}
+use Rattle.trainer.specs.declared.settings.Settings.{Settings}
+use Rattle.trainer.specs.declared.Trainer.{Trainer}
+use Rattle.record.specs.Bytes.{bytesOf, flagByte}
+use Rattle.record.specs.Write.{actionBytes, settingsBytes, numbersBytes, splitsBytes, nodeBytes, payloadBytes, stateBytes}
+use Rattle.record.specs.Parts.{numberFields, actionFields, placeFields, trialFields, leafFields}
+use Rattle.record.proofs.Bytes.{bytes-count}
+use Rattle.record.proofs.Stores.{wrote}
+
+-- ---- three, four and five runs of stores, one after the other
+module _ (l : List ℕ) (at : ℕ) (x y z : List ℕ) (n m : ℕ) {l1 l2 l3 : List ℕ} where
+  pub three : l1 ≡ sets l at x → l2 ≡ sets l1 (at + n) y → l3 ≡ sets l2 (at + m) z → length x ≡ n → length (x ++ y) ≡ m
+      → l3 ≡ sets l at (x ++ (y ++ z))
+  three p q r e f = wrote l l2 at m (x ++ y) z r (wrote l l1 at n x y q p e) f ∙ ap (sets l at) (append-assoc x y z)
+
+  module _ (w : List ℕ) (o : ℕ) {l4 : List ℕ} where
+    pub four : l1 ≡ sets l at x → l2 ≡ sets l1 (at + n) y → l3 ≡ sets l2 (at + m) z → l4 ≡ sets l3 (at + o) w → length x ≡ n → length (x ++ y) ≡ m
+        → length (x ++ (y ++ z)) ≡ o → l4 ≡ sets l at (x ++ (y ++ (z ++ w)))
+    four p q r s e f g = wrote l l3 at o (x ++ (y ++ z)) w s (three p q r e f) g ∙ simp append-assoc
+
+    module _ (v : List ℕ) (k : ℕ) {l5 : List ℕ} where
+      pub five : l1 ≡ sets l at x → l2 ≡ sets l1 (at + n) y → l3 ≡ sets l2 (at + m) z → l4 ≡ sets l3 (at + o) w → l5 ≡ sets l4 (at + k) v
+          → length x ≡ n → length (x ++ y) ≡ m → length (x ++ (y ++ z)) ≡ o → length (x ++ (y ++ (z ++ w))) ≡ k
+          → l5 ≡ sets l at (x ++ (y ++ (z ++ (w ++ v))))
+      five p q r s t e f g h = wrote l l4 at k (x ++ (y ++ (z ++ w))) v t (four p q r s e f g) h ∙ simp append-assoc
+
+-- ---- an action
+pub action-count : (a : Action) → length (actionBytes a) ≡ 20
+action-count a = simp (length-append, bytes-count)
+
+pub action-written : (l : List ℕ) (at : ℕ) (a : Action) (m i d : ℕ) {l1 l2 l3 : List ℕ} → m ≡ toBits binary64 (a .«window_multiplier»)
+    → i ≡ ofZ w32 (a .«window_increment») → d ≡ toBits binary64 (a .«intersend_delay» .0)
+    → l1 ≡ sets l at (bytesOf 8 m) → l2 ≡ sets l1 (at + 8) (bytesOf 4 i) → l3 ≡ sets l2 (at + 12) (bytesOf 8 d) → l3 ≡ sets l at (actionBytes a)
+action-written l at a m i d em ei ed p q r =
+    three l at (bytesOf 8 m) (bytesOf 4 i) (bytesOf 8 d) 8 12 p q r (bytes-count 8 m) (simp (length-append, bytes-count))
+    ∙ rw (em, ei, ed)
+
+-- ---- the settings
+pub numbers-written : (l : List ℕ) (at : ℕ) (s : Settings) (b : ℕ) {l1 l2 l3 : List ℕ} → b ≡ flagByte (s .drill)
+    → l1 ≡ sets l at (bytesOf 4 (s .«rule_splits»)) → l2 ≡ sets l1 (at + 4) (bytesOf 4 (s .rounds))
+    → l3 ≡ sets l2 (at + 8) (bytesOf 4 (s .multiplier)) → set l3 (at + 12) b ≡ sets l at (numberFields s)
+numbers-written l at s b {l1} {l2} {l3} e p q r =
+    four l at (bytesOf 4 (s .«rule_splits»)) (bytesOf 4 (s .rounds)) (bytesOf 4 (s .multiplier)) 4 8 (b ∷ []) 12 {l4 = set l3 (at + 12) b} p q r refl
+    (bytes-count 4 _) (simp (length-append, bytes-count)) (simp (length-append, bytes-count))
+    ∙ rw e
+
+pub actions-written : (l : List ℕ) (at : ℕ) (s : Settings) {l1 l2 l3 l4 l5 : List ℕ}
+    → l1 ≡ sets l at (actionBytes (s .«min_action»)) → l2 ≡ sets l1 (at + 20) (actionBytes (s .«max_action»))
+    → l3 ≡ sets l2 (at + 40) (actionBytes (s .«initial_change»)) → l4 ≡ sets l3 (at + 60) (actionBytes (s .«max_change»))
+    → l5 ≡ sets l4 (at + 80) (actionBytes (s .«default_action»)) → l5 ≡ sets l at (actionFields s)
+actions-written l at s p q r u v =
+    five l at (actionBytes (s .«min_action»)) (actionBytes (s .«max_action»)) (actionBytes (s .«initial_change»)) 20 40
+    (actionBytes (s .«max_change»)) 60 (actionBytes (s .«default_action»)) 80 p q r u v
+    (simp (length-append, bytes-count)) (simp (length-append, bytes-count)) (simp (length-append, bytes-count)) (simp (length-append, bytes-count))
+
+pub numbers-count : (s : Settings) → length (numberFields s) ≡ 13
+numbers-count s = simp (length-append, bytes-count)
+
+pub settings-parts : (s : Settings) → numberFields s ++ actionFields s ≡ settingsBytes s
+settings-parts s = simp append-assoc
+
+pub settings-written : (l : List ℕ) (at : ℕ) (s : Settings) {l1 l2 : List ℕ} → l1 ≡ sets l at (numberFields s) → l2 ≡ sets l1 (at + 13) (actionFields s)
+    → l2 ≡ sets l at (settingsBytes s)
+settings-written l at s {l1} p q = wrote l l1 at 13 (numberFields s) (actionFields s) q p (numbers-count s) ∙ ap (sets l at) (settings-parts s)
+
+pub settings-count : (s : Settings) → length (settingsBytes s) ≡ 113
+settings-count s = simp (length-append, bytes-count)
+
+-- ---- a list of numbers
+pub numbers-append : (xs ys : List ℕ) → numbersBytes (xs ++ ys) ≡ numbersBytes xs ++ numbersBytes ys
+unfolding numbersBytes
+numbers-append [] ys = refl
+numbers-append (x ∷ xs) ys = ap (λ (r : List ℕ). bytesOf 2 x ++ r) (numbers-append xs ys) ∙ sym (append-assoc (bytesOf 2 x) (numbersBytes xs) (numbersBytes ys))
+
+pub list-count : (xs : List ℕ) → length (numbersBytes xs) ≡ 2 * length xs
+unfolding numbersBytes
+list-count [] = refl
+list-count (x ∷ xs) = let h = list-count xs in simp length-append (omega arith)
+
+list-one : (x : ℕ) → numbersBytes (x ∷ []) ≡ bytesOf 2 x
+unfolding numbersBytes
+list-one x = append-nil (bytesOf 2 x)
+
+-- the loop that stores the numbers: one more
+pub list-turn : (l : List ℕ) (at : ℕ) (xs : List ℕ) (k : ℕ) {l1 l2 : List ℕ} → k < length xs → l1 ≡ sets l at (numbersBytes (take k xs))
+    → l2 ≡ sets l1 (at + 2 * k) (bytesOf 2 (getD xs k 0)) → l2 ≡ sets l at (numbersBytes (take (k + 1) xs))
+list-turn l at xs k {l1} h p q =
+    wrote l l1 at (2 * k) (numbersBytes (take k xs)) (bytesOf 2 (getD xs k 0)) q p
+    (list-count (take k xs) ∙ ap (λ (n : ℕ). 2 * n) (length-take-le k xs (omega arith)))
+    ∙ ap (sets l at) (sym (ap (λ (n : ℕ). numbersBytes (take n xs)) (add-one k) ∙ ap numbersBytes (take-suc xs k 0 h)
+    ∙ numbers-append (take k xs) (getD xs k 0 ∷ []) ∙ ap (λ (r : List ℕ). numbersBytes (take k xs) ++ r) (list-one (getD xs k 0))))
+
+pub list-none : (l : List ℕ) (at : ℕ) (xs : List ℕ) → l ≡ sets l at (numbersBytes (take 0 xs))
+unfolding numbersBytes
+list-none l at xs = refl
+
+pub list-done : (l m : List ℕ) (at : ℕ) (xs : List ℕ) (k n : ℕ) → k ≤ n → n ≤ k → m ≡ sets l at (numbersBytes (take k xs)) → m ≡ sets l at (numbersBytes (take n xs))
+list-done l m at xs k n a b e = e ∙ ap (λ (j : ℕ). sets l at (numbersBytes (take j xs))) (let q : k ≡ n = omega arith in q)
+
+pub splits-written : (l : List ℕ) (at : ℕ) (t : RuleTree) (cs ps : List ℕ) {l1 l2 : List ℕ} → cs ≡ childrenOf (t .nodes) → ps ≡ splitNodes cs
+    → l1 ≡ sets l at (bytesOf 2 (t .splits)) → l2 ≡ sets l1 (at + 2) (numbersBytes (take (t .splits) ps)) → l2 ≡ sets l at (splitsBytes t)
+splits-written l at t cs ps {l1} {l2} ec ep p q =
+    wrote l l1 at 2 (bytesOf 2 (t .splits)) (numbersBytes (take (t .splits) ps)) q p (bytes-count 2 (t .splits))
+    ∙ ap (λ (r : List ℕ). sets l at (bytesOf 2 (t .splits) ++ numbersBytes (take (t .splits) r))) (ep ∙ ap splitNodes ec)
+
+-- ---- the leaves
+pub leaf-count : (x : Node) → x .children ≡ 0 → length (leafFields x) ≡ 21
+leaf-count x e = rw (eq-eqb (x .children) 0 e) (simp (length-append, bytes-count))
+
+pub leaf-written : (l : List ℕ) (at : ℕ) (x : Node) (b : ℕ) {l1 : List ℕ} → x .children ≡ 0 → b ≡ flagByte (x .optimized) → l1 ≡ sets l at (actionBytes (x .action))
+    → (at + 21 ≡ at + length (leafFields x)) × (set l1 (at + 20) b ≡ sets l at (leafFields x))
+leaf-written l at x b {l1} e f p = (
+  ap (λ (n : ℕ). at + n) (sym (leaf-count x e)),
+  wrote l l1 at 20 (actionBytes (x .action)) (b ∷ []) refl p (action-count (x .action))
+      ∙ ap (λ (k : ℕ). sets l at (actionBytes (x .action) ++ (k ∷ []))) f
+      ∙ ap (λ (t : Bool). sets l at (cond t (nodeBytes x) [])) (sym (eq-eqb (x .children) 0 e)),
+)
+
+pub leaf-skipped : (l : List ℕ) (at : ℕ) (x : Node) → (x .children ≡ 0 → ⊥) → (at ≡ at + length (leafFields x)) × (l ≡ sets l at (leafFields x))
+leaf-skipped l at x n = (rw (ne-eqb (x .children) 0 n) (omega arith), rw (ne-eqb (x .children) 0 n) refl)
+
+pub payload-suc : (v : ℕ) (nodes : List Node) (i : ℕ) → payloadBytes v nodes (suc i) ≡ payloadBytes v nodes i ++ leafFields (nodeAt nodes i)
+unfolding payloadBytes
+payload-suc v nodes i = refl
+
+-- the first n nodes' leaves, and one more node
+pub payload-more : (v : ℕ) (nodes : List Node) (i : ℕ) → payloadBytes v nodes (i + 1) ≡ payloadBytes v nodes i ++ leafFields (nodeAt nodes i)
+payload-more v nodes i = ap (payloadBytes v nodes) (add-one i) ∙ payload-suc v nodes i
+
+pub payload-grows : (v : ℕ) (nodes : List Node) (i n : ℕ) → i < n
+    → length (payloadBytes v nodes i) + length (leafFields (nodeAt nodes i)) ≤ length (payloadBytes v nodes n)
+payload-grows v nodes i zero l = absurd (omega arith)
+payload-grows v nodes i (suc n) l =
+    let more = ap length (payload-suc v nodes n) ∙ length-append (payloadBytes v nodes n) (leafFields (nodeAt nodes n)) in
+    ⊎-elim (λ (p : i ≡ n). subst (λ (k : ℕ). length (payloadBytes v nodes k) + length (leafFields (nodeAt nodes k)) ≤ length (payloadBytes v nodes (suc n))) (sym p) (omega arith))
+    (λ (q : i < n). let h = payload-grows v nodes i n q in omega arith)
+    (eq-or-lt-of-le (let q : i ≤ n = omega arith in q))
+
+pub leaves-none : (l : List ℕ) (at v : ℕ) (nodes : List Node) → (at ≡ at + length (payloadBytes v nodes 0)) × (l ≡ sets l at (payloadBytes v nodes 0))
+unfolding payloadBytes
+leaves-none l at v nodes = (omega arith, refl)
+
+pub leaves-turn : (l : List ℕ) (at v : ℕ) (nodes : List Node) (i next : ℕ) {r : ℕ} {l1 l2 : List ℕ} → next ≡ at + length (payloadBytes v nodes i)
+    → l1 ≡ sets l at (payloadBytes v nodes i) → r ≡ next + length (leafFields (nodeAt nodes i)) → l2 ≡ sets l1 next (leafFields (nodeAt nodes i))
+    → (r ≡ at + length (payloadBytes v nodes (i + 1))) × (l2 ≡ sets l at (payloadBytes v nodes (i + 1)))
+leaves-turn l at v nodes i next {r} {l1} {l2} e p f q = (
+  (let more = ap length (payload-more v nodes i) ∙ length-append (payloadBytes v nodes i) (leafFields (nodeAt nodes i)) in omega arith),
+  wrote l l1 at (length (payloadBytes v nodes i)) (payloadBytes v nodes i) (leafFields (nodeAt nodes i))
+      (q ∙ ap (λ (k : ℕ). sets l1 k (leafFields (nodeAt nodes i))) e) p refl
+      ∙ ap (sets l at) (sym (payload-more v nodes i)),
+)
+
+pub leaves-done : (l m : List ℕ) (at v : ℕ) (nodes : List Node) (i n next : ℕ) → i ≤ n → n ≤ i → next ≡ at + length (payloadBytes v nodes i)
+    → m ≡ sets l at (payloadBytes v nodes i) → (next ≡ at + length (payloadBytes v nodes n)) × (m ≡ sets l at (payloadBytes v nodes n))
+leaves-done l m at v nodes i n next a b e p =
+    let q : i ≡ n = omega arith in
+    (e ∙ ap (λ (k : ℕ). at + length (payloadBytes v nodes k)) q, p ∙ ap (λ (k : ℕ). sets l at (payloadBytes v nodes k)) q)
+
+-- ---- the state
+pub place-written : (l : List ℕ) (at : ℕ) (t : Trainer) {l1 l2 l3 : List ℕ} → l1 ≡ sets (set l at (t .phase)) (at + 1) (bytesOf 4 (t .stage))
+    → l2 ≡ sets l1 (at + 5) (bytesOf 4 (t .round)) → l3 ≡ sets l2 (at + 9) (bytesOf 2 (t .leaf)) → l3 ≡ sets l at (placeFields t)
+place-written l at t p q r =
+    four l at (t .phase ∷ []) (bytesOf 4 (t .stage)) (bytesOf 4 (t .round)) 1 5 {l1 = set l at (t .phase)} (bytesOf 2 (t .leaf)) 9 refl p q r
+    refl (simp bytes-count) (simp (length-append, bytes-count))
+
+pub trial-written : (l : List ℕ) (at : ℕ) (t : Trainer) (b s : ℕ) {l1 l2 l3 l4 : List ℕ} → b ≡ toBits binary64 (t .best) → s ≡ toBits binary64 (t .«kept_score»)
+    → l1 ≡ sets l at (bytesOf 8 b) → l2 ≡ sets l1 (at + 8) (bytesOf 2 (t .k)) → l3 ≡ sets l2 (at + 10) (bytesOf 2 (t .kept))
+    → l4 ≡ sets l3 (at + 12) (bytesOf 8 s) → l4 ≡ sets l at (trialFields t)
+trial-written l at t b s eb es p q r u =
+    four l at (bytesOf 8 b) (bytesOf 2 (t .k)) (bytesOf 2 (t .kept)) 8 10 (bytesOf 8 s) 12 p q r u
+    (bytes-count 8 b) (simp (length-append, bytes-count)) (simp (length-append, bytes-count))
+    ∙ rw (eb, es)
+
+pub state-parts : (t : Trainer) → placeFields t ++ trialFields t ≡ stateBytes t
+state-parts t = simp append-assoc
+
+pub state-written : (l : List ℕ) (at : ℕ) (t : Trainer) {l1 l2 : List ℕ} → l1 ≡ sets l at (placeFields t) → l2 ≡ sets l1 (at + 11) (trialFields t)
+    → l2 ≡ sets l at (stateBytes t)
+state-written l at t {l1} p q =
+    wrote l l1 at 11 (placeFields t) (trialFields t) q p (simp (length-append, bytes-count)) ∙ ap (sets l at) (state-parts t)
+
+pub state-count : (t : Trainer) → length (stateBytes t) ≡ 31
+state-count t = simp (length-append, bytes-count)

@@ -1,0 +1,47 @@
+-- What save and load answer, refusals first and in 01's order.
+use mathlib.Core.Bool.{Bool, true, false, not, _&&_, _||_, cond}
+use mathlib.Core.List.{List, _++_}
+use Prim.Native.Nat.{ℕ, _+_, _-_}
+use lib.ListN.{length, drop, getD}
+use lib.Dec.{eqb, ltb, leb}
+use Rattle.trainer.specs.declared.Trainer.{Trainer}
+use Rattle.trainer.specs.declared.Answered.{Answered}
+use Rattle.trainer.specs.State.{acceptedOf}
+use Rattle.trainer.specs.Phases.{refuse, taken}
+use Rattle.trainer.specs.Calls.{blankTrainer}
+use Rattle.record.specs.declared.Saved.{Saved}
+use Rattle.record.specs.declared.Saved.the-variants.{Size, Refused}
+use Rattle.record.specs.Bytes.{numberAt, sameBytes}
+use Rattle.record.specs.Write.{recordOf, version}
+use Rattle.record.specs.Read.{readOf}
+
+-- save: 10, 9
+unfoldable pub saveOf : Trainer → List ℕ → Saved
+saveOf t buf =
+    cond (acceptedOf t) (cond (leb (length (recordOf t)) (length buf)) (Size (length (recordOf t))) (Refused 9)) (Refused 10)
+
+-- "Writing answers the size and changes no byte past it"; a refused save changes none
+unfoldable pub bufferAfter : Trainer → List ℕ → Saved → List ℕ
+bufferAfter t buf (Size n) = recordOf t ++ drop n buf
+bufferAfter t buf (Refused k) = buf
+
+-- "6 fewer than 4 bytes, or the u32 over 16,384 or not the bytes that follow"
+unfoldable pub lengthHolds : List ℕ → Bool
+lengthHolds bytes =
+    leb 4 (length bytes) && (leb (numberAt bytes 0 4) 16384 && eqb (numberAt bytes 0 4) (length bytes - 4))
+
+-- "7 no version byte, or unknown"
+unfoldable pub versionHolds : List ℕ → Bool
+versionHolds bytes = leb 5 (length bytes) && eqb (getD bytes 4 0) version
+
+-- the bytes are the record of an accepted trainer: "8 any other field, or bytes that end early or run on for the split count"
+unfoldable pub bodyHolds : List ℕ → Bool
+bodyHolds bytes = acceptedOf (readOf bytes) && sameBytes (recordOf (readOf bytes)) bytes
+
+-- load: 6, 7, 8
+unfoldable pub loadOf : List ℕ → Answered
+unfolding lengthHolds versionHolds bodyHolds
+loadOf bytes =
+    cond (lengthHolds bytes)
+    (cond (versionHolds bytes) (cond (bodyHolds bytes) (taken (readOf bytes)) (refuse 8 blankTrainer)) (refuse 7 blankTrainer))
+    (refuse 6 blankTrainer)

@@ -1,0 +1,5 @@
+pub mod Bytes
+pub mod Write
+pub mod Read
+pub mod Calls
+pub mod Parts

@@ -1,0 +1,46 @@
+-- What the private functions of the code are held to: parts of the record, as it is written and read.
+use mathlib.Core.Bool.{cond}
+use mathlib.Core.List.{List, [], _∷_, _++_}
+use Prim.Native.Nat.{ℕ, _+_}
+use lib.Dec.{eqb}
+use Rattle.rule_tree.specs.declared.Node.{Node}
+use Rattle.rule_tree.specs.Nodes.{parentWith}
+use Rattle.trainer.specs.declared.settings.Settings.{Settings}
+use Rattle.trainer.specs.declared.Trainer.{Trainer}
+use Rattle.trainer.specs.declared.Answered.{Answered}
+use Rattle.trainer.specs.Phases.{refuse, taken}
+use Rattle.trainer.specs.Calls.{blankTrainer}
+use Rattle.record.specs.Bytes.{bytesOf, flagByte}
+use Rattle.record.specs.Write.{floatBytes, actionBytes, nodeBytes}
+use Rattle.record.specs.Read.{actionAt, flagAt, readOf}
+use Rattle.record.specs.Calls.{bodyHolds}
+
+-- the settings' numbers and drill, and their actions
+abbrev pub numberFields : Settings → List ℕ
+numberFields s =
+    bytesOf 4 (s .«rule_splits») ++ (bytesOf 4 (s .rounds) ++ (bytesOf 4 (s .multiplier) ++ (flagByte (s .drill) ∷ [])))
+
+abbrev pub actionFields : Settings → List ℕ
+actionFields s =
+    actionBytes (s .«min_action») ++ (actionBytes (s .«max_action») ++ (actionBytes (s .«initial_change») ++ (
+    actionBytes (s .«max_change») ++ actionBytes (s .«default_action»))))
+
+-- the state up to the leaf, and what has been tried there
+abbrev pub placeFields : Trainer → List ℕ
+placeFields t = t .phase ∷ (bytesOf 4 (t .stage) ++ (bytesOf 4 (t .round) ++ bytesOf 2 (t .leaf)))
+
+abbrev pub trialFields : Trainer → List ℕ
+trialFields t = floatBytes (t .best) ++ (bytesOf 2 (t .k) ++ (bytesOf 2 (t .kept) ++ floatBytes (t .«kept_score»)))
+
+-- what a node adds to the leaves' part
+abbrev pub leafFields : Node → List ℕ
+leafFields x = cond (eqb (x .children) 0) (nodeBytes x) []
+
+-- the node with the first child c whose payload would stand at place at
+abbrev pub nodeWith : List ℕ → ℕ → ℕ → Node
+nodeWith bytes at c =
+    cond (eqb c 0) (record { action = actionAt bytes at; children = 0; optimized = flagAt bytes (at + 20) }) (parentWith c)
+
+-- what load answers once the length and the version hold
+abbrev pub bodyTaken : List ℕ → Answered
+bodyTaken bytes = cond (bodyHolds bytes) (taken (readOf bytes)) (refuse 8 blankTrainer)

@@ -1,0 +1,79 @@
+-- 01, "The record": the bytes that a trainer is saved as.
+use mathlib.Core.Bool.{Bool, true, false, cond}
+use mathlib.Core.List.{List, [], _∷_, _++_}
+use Prim.Native.Nat.{ℕ, zero, suc, _+_}
+use lib.ListN.{length, take}
+use lib.Ieee.{Float, binary64, toBits}
+use mir.Syntax.{w32}
+use mir.Val.{ofZ}
+use Rattle.remy.specs.declared.action.Action.{Action}
+use Rattle.rule_tree.specs.declared.Node.{Node}
+use Rattle.rule_tree.specs.declared.RuleTree.{RuleTree}
+use Rattle.rule_tree.specs.Nodes.{nodeAt, isLeaf, nodeCount, childrenOf}
+use Rattle.rule_tree.specs.Cubes.{splitNodes}
+use Rattle.trainer.specs.declared.settings.Settings.{Settings}
+use Rattle.trainer.specs.declared.Trainer.{Trainer}
+use Rattle.record.specs.Bytes.{bytesOf, flagByte}
+
+abbrev pub floatBytes : Float → List ℕ
+floatBytes x = bytesOf 8 (toBits binary64 x)
+
+-- "multiplier bits 8, increment 4, delay bits 8"
+abbrev pub actionBytes : Action → List ℕ
+actionBytes a = floatBytes (a .«window_multiplier») ++ (bytesOf 4 (ofZ w32 (a .«window_increment»)) ++ floatBytes (a .«intersend_delay» .0))
+
+-- "u32 splits, rounds, multiplier; drill byte; five actions in the order above"
+abbrev pub settingsBytes : Settings → List ℕ
+settingsBytes s =
+    bytesOf 4 (s .«rule_splits») ++ (bytesOf 4 (s .rounds) ++ (bytesOf 4 (s .multiplier) ++ (flagByte (s .drill) ∷ (
+    actionBytes (s .«min_action») ++ (actionBytes (s .«max_action») ++ (actionBytes (s .«initial_change») ++ (
+    actionBytes (s .«max_change») ++ actionBytes (s .«default_action»))))))))
+
+-- "each split's node u16"
+unfoldable pub numbersBytes : List ℕ → List ℕ
+unfolding bytesOf
+numbersBytes [] = []
+numbersBytes (x ∷ xs) = bytesOf 2 x ++ numbersBytes xs
+
+-- "u16 split count; each split's node u16"
+abbrev pub splitsBytes : RuleTree → List ℕ
+splitsBytes t = bytesOf 2 (t .splits) ++ numbersBytes (take (t .splits) (splitNodes (childrenOf (t .nodes))))
+
+-- which nodes a version of the record writes: version 1 the leaves
+abbrev pub written : ℕ → List Node → ℕ → Bool
+written version nodes i = isLeaf nodes i
+
+-- "its action and mark byte"
+abbrev pub nodeBytes : Node → List ℕ
+nodeBytes x = actionBytes (x .action) ++ (flagByte (x .optimized) ∷ [])
+
+-- "per leaf by rising node": the first n nodes
+unfoldable pub payloadBytes : ℕ → List Node → ℕ → List ℕ
+unfolding bytesOf
+payloadBytes version nodes zero = []
+payloadBytes version nodes (suc n) =
+    payloadBytes version nodes n ++ cond (written version nodes n) (nodeBytes (nodeAt nodes n)) []
+
+-- which bytes of the upper ends follow the actions: in version 1 none
+abbrev pub endBytes : ℕ → RuleTree → List ℕ
+endBytes version t = []
+
+-- "phase byte; u32 stage, round; u16 leaf; best 8; u16 k; u16 kept (65535 none); kept's score 8"
+abbrev pub stateBytes : Trainer → List ℕ
+stateBytes t =
+    t .phase ∷ (bytesOf 4 (t .stage) ++ (bytesOf 4 (t .round) ++ (bytesOf 2 (t .leaf) ++ (
+    floatBytes (t .best) ++ (bytesOf 2 (t .k) ++ (bytesOf 2 (t .kept) ++ floatBytes (t .«kept_score»)))))))
+
+-- "version byte 1"
+abbrev pub version : ℕ
+version = 1
+
+abbrev pub bodyOf : Trainer → List ℕ
+bodyOf t =
+    version ∷ (settingsBytes (t .settings) ++ (endBytes version (t .tree) ++ (splitsBytes (t .tree) ++ (
+    payloadBytes version (t .tree .nodes) (nodeCount (t .tree .splits)) ++ stateBytes t))))
+
+-- "u32 length of all that follows"
+unfoldable pub recordOf : Trainer → List ℕ
+unfolding bytesOf numbersBytes payloadBytes
+recordOf t = bytesOf 4 (length (bodyOf t)) ++ bodyOf t

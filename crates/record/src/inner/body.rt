@@ -1,0 +1,54 @@
+// What follows the version: it is read, tested, and written again to be compared.
+ghost use mathlib.Core.Path.{_≡_};
+ghost use mathlib.Core.Bool.{true};
+ghost use Rattle.rule_tree.specs.Grown.{grownOf};
+ghost use Rattle.trainer.specs.Phases.{refuse};
+ghost use Rattle.trainer.specs.Calls.{blankTrainer};
+ghost use Rattle.record.specs.Bytes.{sameBytes};
+ghost use Rattle.record.specs.Write.{recordOf};
+ghost use Rattle.record.specs.Parts.{bodyTaken};
+use crate::inner::read;
+use crate::inner::write;
+use trainer::Answered;
+use trainer::Trainer;
+
+pub fn refused(n: u32) -> Answered
+    ensures { λ r. ⌜ r ≡ refuse n blankTrainer ⌝ }
+{
+    let trainer = trainer::inner::begin::blank();
+    Answered {
+        refused: n,
+        trainer,
+    }
+}
+
+// The bytes are those of the record of t.
+fn same_record(t: Trainer, bytes: &[u8]) -> bool
+    requires { ⌜ grownOf (t .tree) ≡ true ⌝ }
+    ensures { λ r. ⌜ r ≡ sameBytes (recordOf t) (now (bytes .entry)) ⌝ }
+{
+    let tree = t.tree;
+    let size = write::size_of(tree);
+    let mut buf = [0u8; 9708];
+    write::write(&mut buf, t);
+    read::same(&buf[..size], bytes)
+}
+
+pub fn read_body(bytes: &[u8]) -> Answered
+    ensures { λ r. ⌜ r ≡ bodyTaken (now (bytes .entry)) ⌝ }
+{
+    let s = read::short_at(bytes, 118);
+    if s > 64 {
+        return refused(8);
+    }
+    let t = read::trainer_at(bytes, s);
+    if t.accepted() {
+        if same_record(t, bytes) {
+            return Answered {
+                refused: 0,
+                trainer: t,
+            };
+        }
+    }
+    refused(8)
+}

@@ -1,0 +1,272 @@
+// The fields of a record, each read at its place; what lies past the end reads as no bytes.
+ghost use mathlib.Core.Path.{_≡_};
+ghost use mathlib.Core.Bool.{cond};
+ghost use Prim.Native.Nat.{_+_, _*_, _^_, _≤_, _<_};
+ghost use lib.Dec.{eqb};
+ghost use lib.ListN.{length, getD};
+ghost use mir.Syntax.{w32};
+ghost use mir.Val.{toZ};
+ghost use Rattle.rule_tree.specs.Lists.{tabulate};
+ghost use Rattle.record.specs.Bytes.{numberAt, sameBytes};
+ghost use Rattle.record.specs.Read.{floatAt, actionAt, flagAt, settingsAt, linkOf, treeAt, trainerAt};
+ghost use Rattle.record.specs.Parts.{nodeWith};
+ghost use Rattle.record.specs.Calls.{lengthHolds, versionHolds};
+use remy::action::Action;
+use remy::point::Point;
+use rule_tree::Node;
+use rule_tree::RuleTree;
+use trainer::Trainer;
+use trainer::settings::Settings;
+
+// The number in n bytes from place at on.
+pub fn number_at(bytes: &[u8], at: usize, n: usize) -> u64
+    requires { ⌜ (n ≤ 8) × (at ≤ 65536) ⌝ }
+    ensures { λ r. ⌜ (r ≡ numberAt (now (bytes .entry)) at n) × (r < 256 ^ n) ⌝ }
+{
+    let mut x: u64 = 0;
+    let mut i: usize = 0;
+    while i < n {
+        let place = at + i;
+        if bytes.len() <= place {
+            return x;
+        }
+        let b = bytes[place] as u64;
+        x = x * 256 + b;
+        i += 1;
+    }
+    x
+}
+
+pub fn byte_at(bytes: &[u8], at: usize) -> u8
+    ensures { λ r. ⌜ r ≡ getD (now (bytes .entry)) at 0 ⌝ }
+{
+    if at < bytes.len() { bytes[at] } else { 0 }
+}
+
+pub fn flag_at(bytes: &[u8], at: usize) -> bool
+    ensures { λ r. ⌜ r ≡ flagAt (now (bytes .entry)) at ⌝ }
+{
+    byte_at(bytes, at) == 1
+}
+
+pub fn short_at(bytes: &[u8], at: usize) -> u16
+    requires { ⌜ at ≤ 65536 ⌝ }
+    ensures { λ r. ⌜ r ≡ numberAt (now (bytes .entry)) at 2 ⌝ }
+{
+    number_at(bytes, at, 2) as u16
+}
+
+pub fn word_at(bytes: &[u8], at: usize) -> u32
+    requires { ⌜ at ≤ 65536 ⌝ }
+    ensures { λ r. ⌜ r ≡ numberAt (now (bytes .entry)) at 4 ⌝ }
+{
+    number_at(bytes, at, 4) as u32
+}
+
+fn float_at(bytes: &[u8], at: usize) -> f64
+    requires { ⌜ at ≤ 65536 ⌝ }
+    ensures { λ r. ⌜ r ≡ floatAt (now (bytes .entry)) at ⌝ }
+{
+    floats::from_bits(number_at(bytes, at, 8))
+}
+
+// The number whose 32 bits are b.
+fn signed(b: u32) -> i32
+    ensures { λ r. ⌜ r ≡ toZ w32 b ⌝ }
+{
+    let wide = b as i64;
+    if b < 2147483648 {
+        wide as i32
+    } else {
+        (wide - 4294967296) as i32
+    }
+}
+
+fn action_at(bytes: &[u8], at: usize) -> Action
+    requires { ⌜ at ≤ 65000 ⌝ }
+    ensures { λ r. ⌜ r ≡ actionAt (now (bytes .entry)) at ⌝ }
+{
+    let multiplier = float_at(bytes, at);
+    let increment = signed(word_at(bytes, at + 8));
+    let delay = float_at(bytes, at + 12);
+    Action::new(multiplier, increment, delay)
+}
+
+fn settings_at(bytes: &[u8], at: usize) -> Settings
+    requires { ⌜ at ≤ 60000 ⌝ }
+    ensures { λ r. ⌜ r ≡ settingsAt (now (bytes .entry)) at ⌝ }
+{
+    let rule_splits = word_at(bytes, at);
+    let rounds = word_at(bytes, at + 4);
+    let multiplier = word_at(bytes, at + 8);
+    let drill = flag_at(bytes, at + 12);
+    let min_action = action_at(bytes, at + 13);
+    let max_action = action_at(bytes, at + 33);
+    let initial_change = action_at(bytes, at + 53);
+    let max_change = action_at(bytes, at + 73);
+    let default_action = action_at(bytes, at + 93);
+    Settings {
+        rule_splits,
+        rounds,
+        multiplier,
+        drill,
+        min_action,
+        max_action,
+        initial_change,
+        max_change,
+        default_action,
+    }
+}
+
+// Each node's first child after s splits, 0 for a leaf.
+fn links_at(bytes: &[u8], s: u16) -> [u16; 513]
+    requires { ⌜ s ≤ 64 ⌝ }
+    ensures { λ r. ⌜ r ≡ tabulate 513 (linkOf (now (bytes .entry)) s) ⌝ }
+{
+    let mut out = [0u16; 513];
+    let mut k: u16 = 0;
+    while k < s {
+        let node = short_at(bytes, 120 + 2 * (k as usize)) as usize;
+        if node < 513 {
+            out[node] = 8 * k + 1;
+        }
+        k += 1;
+    }
+    out
+}
+
+// A leaf whose payload stands at place at, or a parent whose first child is c.
+fn node_with(bytes: &[u8], at: usize, c: u16) -> Node
+    requires { ⌜ at ≤ 60000 ⌝ }
+    ensures { λ r. ⌜ r ≡ nodeWith (now (bytes .entry)) at c ⌝ }
+{
+    if c == 0 {
+        let action = action_at(bytes, at);
+        let optimized = flag_at(bytes, at + 20);
+        return Node {
+            action,
+            children: 0,
+            optimized,
+        };
+    }
+    let none = Action::new(0.0, 0, 0.0);
+    Node {
+        action: none,
+        children: c,
+        optimized: false,
+    }
+}
+
+// The place after the payload of a node with the first child c.
+fn past(at: usize, c: u16) -> usize
+    requires { ⌜ at ≤ 60000 ⌝ }
+    ensures { λ r. ⌜ r ≡ at + 21 * cond (eqb c 0) 1 0 ⌝ }
+{
+    if c == 0 { at + 21 } else { at }
+}
+
+fn nodes_at(bytes: &[u8], s: u16) -> [Node; 513]
+    requires { ⌜ s ≤ 64 ⌝ }
+    ensures { λ r. ⌜ r ≡ treeAt (now (bytes .entry)) s .nodes ⌝ }
+{
+    let children = links_at(bytes, s);
+    let n = 1 + 8 * (s as usize);
+    let none = Action::new(0.0, 0, 0.0);
+    let blank = Node {
+        action: none,
+        children: 0,
+        optimized: false,
+    };
+    let mut nodes = [blank; 513];
+    let mut at = 120 + 2 * (s as usize);
+    let mut i: usize = 0;
+    while i < n {
+        let c = children[i];
+        nodes[i] = node_with(bytes, at, c);
+        at = past(at, c);
+        i += 1;
+    }
+    nodes
+}
+
+fn tree_at(bytes: &[u8], s: u16) -> RuleTree
+    requires { ⌜ s ≤ 64 ⌝ }
+    ensures { λ r. ⌜ r ≡ treeAt (now (bytes .entry)) s ⌝ }
+{
+    let nodes = nodes_at(bytes, s);
+    let ends = Point::usual_ends();
+    RuleTree {
+        nodes,
+        splits: s,
+        ends,
+    }
+}
+
+pub fn trainer_at(bytes: &[u8], s: u16) -> Trainer
+    requires { ⌜ s ≤ 64 ⌝ }
+    ensures { λ r. ⌜ r ≡ trainerAt (now (bytes .entry)) s ⌝ }
+{
+    let wide = s as usize;
+    let at = 120 + 2 * wide + 21 * (1 + 7 * wide);
+    let settings = settings_at(bytes, 5);
+    let tree = tree_at(bytes, s);
+    let phase = byte_at(bytes, at);
+    let stage = word_at(bytes, at + 1);
+    let round = word_at(bytes, at + 5);
+    let leaf = short_at(bytes, at + 9);
+    let best = float_at(bytes, at + 11);
+    let k = short_at(bytes, at + 19);
+    let kept = short_at(bytes, at + 21);
+    let kept_score = float_at(bytes, at + 23);
+    Trainer {
+        settings,
+        tree,
+        phase,
+        stage,
+        round,
+        leaf,
+        best,
+        k,
+        kept,
+        kept_score,
+    }
+}
+
+pub fn same(a: &[u8], b: &[u8]) -> bool
+    ensures { λ r. ⌜ r ≡ sameBytes (now (a .entry)) (now (b .entry)) ⌝ }
+{
+    if a.len() != b.len() {
+        return false;
+    }
+    let mut i: usize = 0;
+    while i < a.len() {
+        if a[i] != b[i] {
+            return false;
+        }
+        i += 1;
+    }
+    true
+}
+
+// The first four bytes say how many follow.
+pub fn length_holds(bytes: &[u8]) -> bool
+    ensures { λ r. ⌜ r ≡ lengthHolds (now (bytes .entry)) ⌝ }
+{
+    if bytes.len() < 4 {
+        return false;
+    }
+    let n = word_at(bytes, 0) as usize;
+    if n <= 16384 {
+        return n == bytes.len() - 4;
+    }
+    false
+}
+
+pub fn version_holds(bytes: &[u8]) -> bool
+    ensures { λ r. ⌜ r ≡ versionHolds (now (bytes .entry)) ⌝ }
+{
+    if bytes.len() < 5 {
+        return false;
+    }
+    byte_at(bytes, 4) == 1
+}

@@ -1,0 +1,210 @@
+// The bytes of a record, field by field. What is not written stays.
+ghost use mathlib.Core.Path.{_≡_};
+ghost use mathlib.Core.Bool.{true, cond};
+ghost use mathlib.Core.List.{[], _∷_, _++_};
+ghost use Prim.Native.Nat.{_+_, _*_, _≤_};
+ghost use lib.Dec.{eqb};
+ghost use lib.ListN.{length, take};
+ghost use lib.Seq.{sets};
+ghost use mir.Syntax.{w32};
+ghost use mir.Val.{ofZ};
+ghost use Rattle.rule_tree.specs.Nodes.{nodeCount};
+ghost use Rattle.rule_tree.specs.Grown.{grownOf};
+ghost use Rattle.record.specs.Bytes.{bytesOf, flagByte};
+ghost use Rattle.record.specs.Write.{actionBytes, settingsBytes, numbersBytes, splitsBytes, nodeBytes, payloadBytes, stateBytes, version, recordOf};
+ghost use Rattle.record.specs.Parts.{numberFields, actionFields, placeFields, trialFields, leafFields};
+use remy::action::Action;
+use rule_tree::Node;
+use rule_tree::RuleTree;
+use rule_tree::inner::cubes;
+use rule_tree::inner::links;
+use trainer::Trainer;
+use trainer::settings::Settings;
+
+// x in n bytes from place at on, the highest first.
+pub fn put(buf: &mut [u8], at: usize, n: usize, x: u64)
+    requires { ⌜ at + n ≤ length (now buf) ⌝ }
+    ensures { λ _. ⌜ now (buf .exit) ≡ sets (now (buf .entry)) at (bytesOf n x) ⌝ }
+{
+    let mut left = n;
+    let mut rest = x;
+    while left > 0 {
+        left -= 1;
+        buf[at + left] = (rest % 256) as u8;
+        rest = rest / 256;
+    }
+}
+
+// The 32 bits of x.
+fn bits_of(x: i32) -> u64
+    ensures { λ r. ⌜ r ≡ ofZ w32 x ⌝ }
+{
+    let wide = x as i64;
+    if wide < 0 {
+        (wide + 4294967296) as u64
+    } else {
+        wide as u64
+    }
+}
+
+fn flag_of(b: bool) -> u8
+    ensures { λ r. ⌜ r ≡ flagByte b ⌝ }
+{
+    if b { 1 } else { 0 }
+}
+
+fn put_action(buf: &mut [u8], at: usize, a: Action)
+    requires { ⌜ at + 20 ≤ length (now buf) ⌝ }
+    ensures { λ _. ⌜ now (buf .exit) ≡ sets (now (buf .entry)) at (actionBytes a) ⌝ }
+{
+    let multiplier = floats::to_bits(a.window_multiplier);
+    let increment = bits_of(a.window_increment);
+    let delay = floats::to_bits(a.intersend_delay.0);
+    put(buf, at, 8, multiplier);
+    put(buf, at + 8, 4, increment);
+    put(buf, at + 12, 8, delay);
+}
+
+// The settings' numbers and drill.
+fn put_numbers(buf: &mut [u8], at: usize, s: Settings)
+    requires { ⌜ at + 13 ≤ length (now buf) ⌝ }
+    ensures { λ _. ⌜ now (buf .exit) ≡ sets (now (buf .entry)) at (numberFields s) ⌝ }
+{
+    let drill = flag_of(s.drill);
+    put(buf, at, 4, s.rule_splits as u64);
+    put(buf, at + 4, 4, s.rounds as u64);
+    put(buf, at + 8, 4, s.multiplier as u64);
+    buf[at + 12] = drill;
+}
+
+// The settings' five actions.
+fn put_actions(buf: &mut [u8], at: usize, s: Settings)
+    requires { ⌜ at + 100 ≤ length (now buf) ⌝ }
+    ensures { λ _. ⌜ now (buf .exit) ≡ sets (now (buf .entry)) at (actionFields s) ⌝ }
+{
+    let min = s.min_action;
+    let max = s.max_action;
+    let initial = s.initial_change;
+    let most = s.max_change;
+    let default = s.default_action;
+    put_action(buf, at, min);
+    put_action(buf, at + 20, max);
+    put_action(buf, at + 40, initial);
+    put_action(buf, at + 60, most);
+    put_action(buf, at + 80, default);
+}
+
+fn put_settings(buf: &mut [u8], at: usize, s: Settings)
+    requires { ⌜ at + 113 ≤ length (now buf) ⌝ }
+    ensures { λ _. ⌜ now (buf .exit) ≡ sets (now (buf .entry)) at (settingsBytes s) ⌝ }
+{
+    put_numbers(buf, at, s);
+    put_actions(buf, at + 13, s);
+}
+
+// The first n numbers, two bytes each.
+fn put_list(buf: &mut [u8], at: usize, numbers: &[u16], n: usize)
+    requires { ⌜ (n ≤ length (now numbers)) × (at + 2 * n ≤ length (now buf)) ⌝ }
+    ensures { λ _. ⌜ now (buf .exit) ≡ sets (now (buf .entry)) at (numbersBytes (take n (now (numbers .entry)))) ⌝ }
+{
+    let mut k: usize = 0;
+    while k < n {
+        put(buf, at + 2 * k, 2, numbers[k] as u64);
+        k += 1;
+    }
+}
+
+fn put_splits(buf: &mut [u8], at: usize, t: RuleTree)
+    requires { ⌜ (t .splits ≤ 64) × (at + (2 + 2 * t .splits) ≤ length (now buf)) ⌝ }
+    ensures { λ _. ⌜ now (buf .exit) ≡ sets (now (buf .entry)) at (splitsBytes t) ⌝ }
+{
+    let children = links::children_of(t);
+    let parents = cubes::split_nodes(&children);
+    put(buf, at, 2, t.splits as u64);
+    put_list(buf, at + 2, &parents, t.splits as usize);
+}
+
+// A leaf's action and mark; of a parent nothing. The place after it.
+fn put_leaf(buf: &mut [u8], at: usize, x: Node) -> usize
+    requires { ⌜ at + length (leafFields x) ≤ length (now buf) ⌝ }
+    ensures { λ r. ⌜ (r ≡ at + length (leafFields x)) × (now (buf .exit) ≡ sets (now (buf .entry)) at (leafFields x)) ⌝ }
+{
+    if x.children == 0 {
+        let a = x.action;
+        let mark = flag_of(x.optimized);
+        put_action(buf, at, a);
+        buf[at + 20] = mark;
+        return at + 21;
+    }
+    at
+}
+
+// The leaves by rising node. The place after them.
+fn put_leaves(buf: &mut [u8], at: usize, t: RuleTree) -> usize
+    requires { ⌜ (t .splits ≤ 64) × (at + length (payloadBytes version (t .nodes) (nodeCount (t .splits))) ≤ length (now buf)) ⌝ }
+    ensures { λ r. ⌜ (r ≡ at + length (payloadBytes version (t .nodes) (nodeCount (t .splits)))) × (now (buf .exit) ≡ sets (now (buf .entry)) at (payloadBytes version (t .nodes) (nodeCount (t .splits)))) ⌝ }
+{
+    let n = 1 + 8 * (t.splits as usize);
+    let mut next = at;
+    let mut i: usize = 0;
+    while i < n {
+        let x = t.nodes[i];
+        next = put_leaf(buf, next, x);
+        i += 1;
+    }
+    next
+}
+
+// Where the training stands.
+fn put_place(buf: &mut [u8], at: usize, t: Trainer)
+    requires { ⌜ at + 11 ≤ length (now buf) ⌝ }
+    ensures { λ _. ⌜ now (buf .exit) ≡ sets (now (buf .entry)) at (placeFields t) ⌝ }
+{
+    buf[at] = t.phase;
+    put(buf, at + 1, 4, t.stage as u64);
+    put(buf, at + 5, 4, t.round as u64);
+    put(buf, at + 9, 2, t.leaf as u64);
+}
+
+// What has been tried at the leaf.
+fn put_trial(buf: &mut [u8], at: usize, t: Trainer)
+    requires { ⌜ at + 20 ≤ length (now buf) ⌝ }
+    ensures { λ _. ⌜ now (buf .exit) ≡ sets (now (buf .entry)) at (trialFields t) ⌝ }
+{
+    let best = floats::to_bits(t.best);
+    let score = floats::to_bits(t.kept_score);
+    put(buf, at, 8, best);
+    put(buf, at + 8, 2, t.k as u64);
+    put(buf, at + 10, 2, t.kept as u64);
+    put(buf, at + 12, 8, score);
+}
+
+fn put_state(buf: &mut [u8], at: usize, t: Trainer)
+    requires { ⌜ at + 31 ≤ length (now buf) ⌝ }
+    ensures { λ _. ⌜ now (buf .exit) ≡ sets (now (buf .entry)) at (stateBytes t) ⌝ }
+{
+    put_place(buf, at, t);
+    put_trial(buf, at + 11, t);
+}
+
+// The size of the record of a trainer whose tree is grown.
+pub fn size_of(t: RuleTree) -> usize
+    ensures { λ r. ⌜ r ≡ 172 + 149 * t .splits ⌝ }
+{
+    172 + 149 * (t.splits as usize)
+}
+
+pub fn write(buf: &mut [u8], t: Trainer)
+    requires { ⌜ (grownOf (t .tree) ≡ true) × (172 + 149 * t .tree .splits ≤ length (now buf)) ⌝ }
+    ensures { λ _. ⌜ now (buf .exit) ≡ sets (now (buf .entry)) 0 (recordOf t) ⌝ }
+{
+    let s = t.settings;
+    let tree = t.tree;
+    let splits = tree.splits as usize;
+    put(buf, 0, 4, (168 + 149 * splits) as u64);
+    buf[4] = 1;
+    put_settings(buf, 5, s);
+    put_splits(buf, 118, tree);
+    let at = put_leaves(buf, 120 + 2 * splits, tree);
+    put_state(buf, at, t);
+}

@@ -1,0 +1,92 @@
+-- One law for each way through the functions that change a tree, over plain values. Assumes nothing.
+use mathlib.Core.Path.{_≡_, refl, sym, ap, _∙_}
+use mathlib.Core.Bool.{Bool, true, false}
+use mathlib.Core.List.{List, [], _∷_, _++_, map, append-nil}
+use Prim.Native.Nat.{ℕ, zero, suc, _+_, _*_, _<_, _≤_}
+use native.Mathlib.Numerals.{add-one}
+use native.Mathlib.Omega.{arith}
+use borrow.Author.Tests.{eq-eqb, ne-eqb, ltb-true}
+use lib.Dec.{ltb}
+use lib.ListN.{length, getD, set, take, drop, replicate, drop-of-length-le}
+use lib.Seq.{take-all}
+use Rattle.remy.specs.declared.action.Action.{Action}
+use Rattle.remy.specs.declared.point.Point.{Point}
+use Rattle.rule_tree.specs.declared.Node.{Node}
+use Rattle.rule_tree.specs.declared.RuleTree.{RuleTree}
+use Rattle.rule_tree.specs.Lists.{fill}
+use Rattle.rule_tree.specs.Nodes.{noNode, nodeAt, isLeaf, nodeCount, noAction, leafWith}
+use Rattle.rule_tree.specs.Change.{freshTree, withNodes, unmarkedNode, withoutMarks, splitAt}
+use Rattle.rule_tree.specs.Calls.{leafIn}
+
+-- ---- a list whose first i elements went through f
+abbrev pub swept : {A : Type 0} → (A → A) → List A → ℕ → List A
+swept f xs i = map f (take i xs) ++ drop i xs
+
+pub swept-none : {A : Type 0} (f : A → A) (xs : List A) → xs ≡ swept f xs 0
+swept-none f xs = refl
+
+swept-suc : {A : Type 0} (f : A → A) (xs : List A) (i : ℕ) (d : A) → i < length xs → set (swept f xs i) i (f (getD xs i d)) ≡ swept f xs (suc i)
+swept-suc f [] i d l = absurd (omega arith)
+swept-suc f (x ∷ xs) zero d l = refl
+swept-suc f (x ∷ xs) (suc i) d l = ap (λ ys. f x ∷ ys) (swept-suc f xs i d (omega arith))
+
+pub swept-more : {A : Type 0} (f : A → A) (xs : List A) (i : ℕ) (d : A) → i < length xs → set (swept f xs i) i (f (getD xs i d)) ≡ swept f xs (i + 1)
+swept-more f xs i d l = swept-suc f xs i d l ∙ ap (swept f xs) (sym (add-one i))
+
+pub swept-all : {A : Type 0} (f : A → A) (xs : List A) (i : ℕ) → length xs ≤ i → swept f xs i ≡ map f xs
+swept-all f xs i l = rw (take-all i xs l, drop-of-length-le xs l) (append-nil _)
+
+-- ---- one law for each way through the functions of src/inner/change
+pub leaf-in : (t : RuleTree) (i : ℕ) (b : Bool) → b ≡ ltb i (nodeCount (t .splits)) → b ≡ true → isLeaf (t .nodes) i ≡ leafIn t i
+leaf-in t i b e h = rw (sym e ∙ h)
+
+pub no-leaf : (t : RuleTree) (i : ℕ) (b : Bool) → b ≡ ltb i (nodeCount (t .splits)) → b ≡ false → false ≡ leafIn t i
+no-leaf t i b e h = rw (sym e ∙ h)
+
+pub in-array : (s i : ℕ) (b : Bool) → s ≤ 64 → b ≡ ltb i (nodeCount s) → b ≡ true → i < 513
+in-array s i b l e h = omega (arith, ltb-true i (nodeCount s) (sym e ∙ h))
+
+pub fresh-made :
+    (e : Point) (a none : Action) → none ≡ noAction
+    → _≡_ {A = RuleTree} (record { nodes = set (replicate 513 (leafWith none)) 0 (leafWith a); splits = 0; ends = e }) (freshTree e a)
+fresh-made e a none p = ap (λ (x : Action). record { nodes = set (replicate 513 (leafWith x)) 0 (leafWith a); splits = 0; ends = e }) p
+
+pub unmarked-leaf : (x : Node) → x .children ≡ 0 → _≡_ {A = Node} (record { action = x .action; children = x .children; optimized = false }) (unmarkedNode x)
+unfolding unmarkedNode
+unmarked-leaf x h = rw (eq-eqb _ 0 h)
+
+pub unmarked-parent : (x : Node) → (x .children ≡ 0 → ⊥) → x ≡ unmarkedNode x
+unfolding unmarkedNode
+unmarked-parent x h = rw (ne-eqb _ 0 h)
+
+pub marks-more :
+    (t out : RuleTree) (i : ℕ) (y : Node) → i < 513 → length (t .nodes) ≡ 513 → out ≡ withNodes t (swept unmarkedNode (t .nodes) i)
+    → y ≡ unmarkedNode (nodeAt (t .nodes) i) → withNodes out (set (out .nodes) i y) ≡ withNodes t (swept unmarkedNode (t .nodes) (i + 1))
+marks-more t out i y l n e h =
+    ap (λ (o : RuleTree). withNodes o (set (o .nodes) i y)) e
+    ∙ ap (λ (z : Node). withNodes t (set (swept unmarkedNode (t .nodes) i) i z)) h
+    ∙ ap (withNodes t) (swept-more unmarkedNode (t .nodes) i noNode (omega arith))
+
+pub marks-done : (t out : RuleTree) (i : ℕ) → 513 ≤ i → length (t .nodes) ≡ 513 → out ≡ withNodes t (swept unmarkedNode (t .nodes) i) → out ≡ withoutMarks t
+marks-done t out i l n e = e ∙ ap (withNodes t) (swept-all unmarkedNode (t .nodes) i (omega arith))
+
+pub filled-more :
+    (t out : RuleTree) (xs : List Node) (from k : ℕ) (v : Node) → out ≡ withNodes t (fill xs from k v)
+    → withNodes out (set (out .nodes) (from + k) v) ≡ withNodes t (fill xs from (k + 1) v)
+unfolding fill
+filled-more t out xs from k v e = rw (add-one k) (ap (λ (o : RuleTree). withNodes o (set (o .nodes) (from + k) v)) e)
+
+pub split-done :
+    (t out : RuleTree) (i k : ℕ) (none : Action) → none ≡ noAction → k ≤ 8 → 8 ≤ k
+    → out ≡ withNodes t (fill (set (t .nodes) i (record { action = none; children = 8 * t .splits + 1; optimized = false })) (8 * t .splits + 1) k (leafWith (nodeAt (t .nodes) i .action)))
+    → _≡_ {A = RuleTree} (record { nodes = out .nodes; splits = t .splits + 1; ends = out .ends }) (splitAt t i)
+unfolding splitAt
+split-done t out i k none p l g e =
+    let q : k ≡ 8 = omega arith in
+    ap (λ (o : RuleTree). record { nodes = o .nodes; splits = t .splits + 1; ends = o .ends }) e
+    ∙ ap
+    (λ (n : ℕ). record { nodes = fill (set (t .nodes) i (record { action = none; children = 8 * t .splits + 1; optimized = false })) (8 * t .splits + 1) n (leafWith (nodeAt (t .nodes) i .action)); splits = t .splits + 1; ends = t .ends })
+    q
+    ∙ ap
+    (λ (a : Action). record { nodes = fill (set (t .nodes) i (record { action = a; children = 8 * t .splits + 1; optimized = false })) (8 * t .splits + 1) 8 (leafWith (nodeAt (t .nodes) i .action)); splits = t .splits + 1; ends = t .ends })
+    p

@@ -1,0 +1,17 @@
+pub mod Lists
+pub mod Counting
+pub mod ChangeWays
+pub mod GrownTree
+pub mod Changing
+pub mod LinkWays
+pub mod Owners
+pub mod CubeSteps
+pub mod Plain
+pub mod Links
+pub mod Comparing
+pub mod Copying
+pub mod EqualLevel
+pub mod EqualWays
+pub mod Walking
+pub mod Looking
+pub mod Ways

@@ -1,0 +1,121 @@
+-- One law for each way through `looked`, `looked_replaced` and `tallied`, over plain values. Assumes nothing.
+use mathlib.Core.Path.{_≡_, sym, ap, subst, _∙_}
+use mathlib.Core.Bool.{Bool, true, false}
+use mathlib.Core.List.{List}
+use Prim.Native.Nat.{ℕ, _+_, _^_, _<_, _≤_}
+use native.Mathlib.Omega.{arith}
+use lib.ListN.{getD, set, length}
+use borrow.Author.Tests.{eq-eqb, ne-eqb}
+use Rattle.remy.specs.declared.action.Action.{Action}
+use Rattle.remy.specs.declared.point.Point.{Point}
+use Rattle.remy.specs.declared.cube.Cube.{Cube}
+use Rattle.remy.specs.Cube.{containsOf, rootOf, Whole}
+use Rattle.rule_tree.specs.declared.Node.{Node}
+use Rattle.rule_tree.specs.declared.RuleTree.{RuleTree}
+use Rattle.rule_tree.specs.declared.Looked.the-variants.{Found, Nothing}
+use Rattle.rule_tree.specs.declared.Tallied.{Tallied}
+use Rattle.rule_tree.specs.declared.Tallied.the-variants as tallied
+use Rattle.rule_tree.specs.declared.inner.walk.Reached.{Reached}
+use Rattle.rule_tree.specs.Lists.{total}
+use Rattle.rule_tree.specs.Nodes.{nodeAt, childrenOf}
+use Rattle.rule_tree.specs.Grown.{grownOf}
+use Rattle.rule_tree.specs.Walk.{walkOf, Walkable}
+use Rattle.rule_tree.specs.Counts.{limit, cappedTotal, countsHold}
+use Rattle.rule_tree.specs.Change.{withAction}
+use Rattle.rule_tree.specs.Calls.{foundIn, tallyOf, countedIn}
+use Rattle.rule_tree.proofs.Lists.{total-take, total-take-le}
+use Rattle.rule_tree.proofs.Counting.{counts-accepted}
+use Rattle.rule_tree.proofs.Changing.{action-at, action-other, action-links}
+use Rattle.rule_tree.proofs.Links.{grown-splits, grown-own-links, grown-walkable}
+use Rattle.rule_tree.proofs.Walking.{Leaf, walk-leaf}
+
+-- ---- what the code has in its locals: the links, the root, the answer of `contains`
+pub record Inside (t : RuleTree) (p : Point) (cs : List ℕ) (root : Cube) : Type 0 where
+  pub links : cs ≡ childrenOf (t .nodes)
+  pub rooted : root ≡ rootOf (t .ends)
+  pub inside : containsOf (rootOf (t .ends)) p ≡ true
+
+-- the answer of `contains` on the root
+pub contained : (t : RuleTree) (p : Point) (root : Cube) (b v : Bool) → root ≡ rootOf (t .ends) → b ≡ containsOf root p → b ≡ v → containsOf (rootOf (t .ends)) p ≡ v
+contained t p root b v r h y = ap (λ (c : Cube). containsOf c p) (sym r) ∙ sym h ∙ y
+
+pub entered : (t : RuleTree) (p : Point) (cs : List ℕ) (root : Cube) (b : Bool)
+    → cs ≡ childrenOf (t .nodes) → root ≡ rootOf (t .ends) → b ≡ containsOf root p → b ≡ true → Inside t p cs root
+entered t p cs root b e r h y =
+    record { links = e; rooted = r; inside = contained t p root b true r h y }
+
+module _ (t : RuleTree) (p : Point) (cs : List ℕ) (root : Cube) (g : grownOf t ≡ true) (w : Whole (rootOf (t .ends))) (i : Inside t p cs root) where
+  pub walk-ready : Walkable cs root p
+  walk-ready = rw (i .links, i .rooted) (record { links = grown-walkable t g; whole = w; inside = i .inside })
+
+  module _ (r : Reached) (e : r ≡ walkOf cs root p) where
+    pub walked : r ≡ walkOf (childrenOf (t .nodes)) (rootOf (t .ends)) p
+    walked = rw (i .links, i .rooted) at e
+
+    pub ends-leaf : Leaf (childrenOf (t .nodes)) (t .splits) r
+    ends-leaf =
+        subst (Leaf (childrenOf (t .nodes)) (t .splits)) (sym walked)
+        (walk-leaf (childrenOf (t .nodes)) (rootOf (t .ends)) p (t .splits) (grown-splits t g) (grown-own-links t g) w (i .inside))
+
+-- ---- looked
+pub look-found : (t : RuleTree) (p : Point) (r : Reached) → containsOf (rootOf (t .ends)) p ≡ true → r ≡ walkOf (childrenOf (t .nodes)) (rootOf (t .ends)) p
+    → Found (nodeAt (t .nodes) (r .node) .action) ≡ foundIn t p
+unfolding foundIn
+look-found t p r h e = rw (h, e)
+
+pub look-nothing : (t : RuleTree) (p : Point) (root : Cube) (b : Bool) → root ≡ rootOf (t .ends) → b ≡ containsOf root p → b ≡ false → Nothing ≡ foundIn t p
+unfolding foundIn
+look-nothing t p root b r h y = rw (contained t p root b false r h y)
+
+-- ---- looked_replaced
+module _ (t : RuleTree) (leaf : ℕ) (a : Action) (p : Point) (r : Reached) (h : containsOf (rootOf (t .ends)) p ≡ true) (e : r ≡ walkOf (childrenOf (t .nodes)) (rootOf (t .ends)) p) where
+  replaced-at : Found (nodeAt (withAction t leaf a .nodes) (r .node) .action) ≡ foundIn (withAction t leaf a) p
+  replaced-at = look-found (withAction t leaf a) p r h (rw (action-links t leaf a) e)
+
+  pub replaced-same : leaf < length (t .nodes) → r .node ≡ leaf → Found a ≡ foundIn (withAction t leaf a) p
+  replaced-same l q =
+      ap (λ (y : Node). Found (y .action)) (sym (action-at t leaf a l))
+      ∙ ap (λ (i : ℕ). Found (nodeAt (withAction t leaf a .nodes) i .action)) (sym q)
+      ∙ replaced-at
+
+  pub replaced-other : (r .node ≡ leaf → ⊥) → Found (nodeAt (t .nodes) (r .node) .action) ≡ foundIn (withAction t leaf a) p
+  replaced-other q =
+      ap (λ (y : Node). Found (y .action)) (sym (action-other t leaf a (r .node) q)) ∙ replaced-at
+
+pub replaced-nothing : (t : RuleTree) (leaf : ℕ) (a : Action) (p : Point) (root : Cube) (b : Bool) → root ≡ rootOf (t .ends) → b ≡ containsOf root p → b ≡ false
+    → Nothing ≡ foundIn (withAction t leaf a) p
+replaced-nothing t leaf a p root b r h y = look-nothing (withAction t leaf a) p root b r h y
+
+-- ---- tallied
+-- no count is above the total
+pub count-small : (xs : List ℕ) (i : ℕ) → i < length xs → cappedTotal xs < limit → getD xs i 0 + 1 < 2 ^ 64
+count-small xs i l c = let a = total-take xs i l in let b = total-take-le xs (i + 1) in omega arith
+
+module _ (t : RuleTree) (xs : List ℕ) (p : Point) (g : grownOf t ≡ true) (c : countsHold t xs ≡ true) where
+  pub tally-nothing : containsOf (rootOf (t .ends)) p ≡ false → tallied.Nothing ≡ tallyOf t xs p
+  unfolding tallyOf
+  tally-nothing h = rw (g, c, h)
+
+  pub tally-full : containsOf (rootOf (t .ends)) p ≡ true → (n : ℕ) → n ≡ cappedTotal xs → limit ≤ n → tallied.Refused 23 ≡ tallyOf t xs p
+  unfolding tallyOf
+  tally-full h n e m =
+      let k = counts-accepted t xs c .total-held in
+      let f : total xs ≡ limit = omega arith in
+      rw (g, c, h, eq-eqb (total xs) limit f)
+
+  pub tally-counted : containsOf (rootOf (t .ends)) p ≡ true → (n : ℕ) → n ≡ cappedTotal xs → n < limit
+      → (r : Reached) → r ≡ walkOf (childrenOf (t .nodes)) (rootOf (t .ends)) p → tallied.Counted (r .node) ≡ tallyOf t xs p
+  unfolding tallyOf
+  tally-counted h n e m r q = rw (g, c, h, ne-eqb (total xs) limit (λ f. absurd (omega (arith, f))), q)
+
+pub counted-leaf : (xs : List ℕ) (r : Tallied) (i : ℕ) → tallied.Counted i ≡ r → set xs i (getD xs i 0 + 1) ≡ countedIn xs r
+unfolding countedIn
+counted-leaf xs r i e = rw (← e)
+
+pub counted-nothing : (xs : List ℕ) (r : Tallied) → tallied.Nothing ≡ r → xs ≡ countedIn xs r
+unfolding countedIn
+counted-nothing xs r e = rw (← e)
+
+pub counted-refused : (xs : List ℕ) (r : Tallied) (k : ℕ) → tallied.Refused k ≡ r → xs ≡ countedIn xs r
+unfolding countedIn
+counted-refused xs r k e = rw (← e)

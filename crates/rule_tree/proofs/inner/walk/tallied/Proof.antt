@@ -1,0 +1,125 @@
+-- `tallied` meets its contract. Assumes nothing.
+use mathlib.Core.Bool.{true, false}
+use Prim.Native.Nat.{_<_}
+use native.Mathlib.Omega.{arith}
+use lib.ListN.{length}
+use borrow.Author.Needs.{needs}
+use Rattle.remy.specs.Cube.{rootOf, Whole}
+use Rattle.rule_tree.proofs.Walking.{Leaf}
+use Rattle.rule_tree.specs.Nodes.{childrenOf}
+use Rattle.rule_tree.proofs.Links.{grown-whole}
+use Rattle.rule_tree.proofs.Counting.{counts-accepted}
+use Rattle.rule_tree.proofs.Looking as law
+use Rattle.rule_tree.proofs.inner.walk.tallied.Statement.{statement}
+use Rattle.rule_tree.proofs.inner.walk.tallied.Tie as tie
+
+whole : (c : tie.Start) → Whole (rootOf (c .args .t .ends))
+whole c = grown-whole (c .args .t) (c .pre .0) (record { acks = search needs; sends = search needs; ratios = search needs })
+
+inside : (c : tie.After-children-of)
+    → law.Inside (c .before .before .before .before .before .before .before .before .before .args .t) (c .before .before .before .before .before .before .before .before .before .args .p) (c .children-of .result) (c .before .before .before .before .before .before .root .result)
+inside c =
+    let t = c .before .before .before .before in
+    law.entered _ _ _ _ (t .before .contains .result) (c .children-of .ensures) (t .before .before .root .ensures) (t .before .contains .ensures) (t .if1 .taken)
+
+leaf : (c : tie.After-walk)
+    → Leaf (childrenOf (c .before .before .before .before .before .before .before .before .before .before .before .args .t .nodes)) (c .before .before .before .before .before .before .before .before .before .before .before .args .t .splits) (c .walk .result)
+leaf c =
+    let s = c .before .before .before .before .before .before .before .before .before .before .before in
+    law.ends-leaf (s .args .t) (s .args .p) _ _ (s .pre .0) (whole s) (inside (c .before .before)) (c .walk .result) (c .walk .ensures)
+
+below : (c : tie.After-walk) → c .walk .result .node < length (c .before .before .before .before .before .before .before .before .before .before .before .args .counts .now)
+below c =
+    let s = c .before .before .before .before .before .before .before .before .before .before .before in
+    let n = counts-accepted (s .args .t) (s .args .counts .now) (s .pre .1) .one-a-node in
+    let l = leaf c .node in
+    omega arith
+
+root-requires : tie.Need-root-requires
+root-requires c κs = search needs
+
+contains-requires : tie.Need-contains-requires
+contains-requires c κs = search needs
+
+capped-total-requires : tie.Need-capped-total-requires
+capped-total-requires c κs = search needs
+
+children-of-requires : tie.Need-children-of-requires
+children-of-requires c κs = search needs
+
+walk-requires : tie.Need-walk-requires
+walk-requires c κs =
+    let s = c .before .before .before .before .before .before .before .before .before .before in
+    law.walk-ready (s .args .t) (s .args .p) _ _ (s .pre .0) (whole s) (inside (c .before))
+
+cast-i : tie.Need-cast-i
+cast-i c = search needs
+
+mul-counts : tie.Need-mul-counts
+mul-counts c = search needs
+
+slice-read-counts : tie.Need-slice-read-counts
+slice-read-counts c = below (c .before)
+
+add-counts : tie.Need-add-counts
+add-counts c =
+    let t = c .before .before .before .before in
+    let s = t .before .before .before .before .before .before .before .before in
+    record { fits = law.count-small (s .args .counts .now) (c .before .walk .result .node) (below (c .before)) (let e = t .before .capped-total .ensures in let m = t .if2 .taken in omega arith) }
+
+mul-counts-2 : tie.Need-mul-counts-2
+mul-counts-2 c = search needs
+
+slice-write-counts : tie.Need-slice-write-counts
+slice-write-counts c = below (c .before)
+
+same-length : tie.Need-same-length
+same-length c = search needs
+
+returns : tie.Need-returns
+returns c =
+    let w = c .before in
+    let t = w .before .before .before in
+    let s = t .before .before .before .before .before .before .before .before in
+    let i = inside (w .before .before) in
+    let e = law.tally-counted (s .args .t) (s .args .counts .now) (s .args .p) (s .pre .0) (s .pre .1) (i .inside) (t .before .capped-total .result) (t .before .capped-total .ensures) (t .if2 .taken)
+    (w .walk .result) (law.walked (s .args .t) (s .args .p) _ _ (s .pre .0) (whole s) i (w .walk .result) (w .walk .ensures)) in
+    (e, law.counted-leaf (s .args .counts .now) _ (w .walk .result .node) e)
+
+same-length-2 : tie.Need-same-length-2
+same-length-2 c = search needs
+
+returns-2 : tie.Need-returns-2
+returns-2 c =
+    let t = c .before .before .before in
+    let s = t .before .before .before .before .before in
+    let e = law.tally-full (s .args .t) (s .args .counts .now) (s .args .p) (s .pre .0) (s .pre .1) (law.contained (s .args .t) (s .args .p) _ (t .before .contains .result) true (t .before .before .root .ensures) (t .before .contains .ensures) (t .if1 .taken))
+    (c .before .capped-total .result) (c .before .capped-total .ensures) (c .if2 .left) in
+    (e, law.counted-refused (s .args .counts .now) _ 23 e)
+
+returns-3 : tie.Need-returns-3
+returns-3 c =
+    let s = c .before .before .before .before .before in
+    let e = law.tally-nothing (s .args .t) (s .args .counts .now) (s .args .p) (s .pre .0) (s .pre .1) (law.contained (s .args .t) (s .args .p) _ (c .before .contains .result) false (c .before .before .root .ensures) (c .before .contains .ensures) (c .if1 .left)) in
+    (e, law.counted-nothing (s .args .counts .now) _ e)
+
+pub tallied-spec : {M : Type 1} → statement M
+tallied-spec =
+    tie.close
+    (tie.spec
+    root-requires
+    contains-requires
+    capped-total-requires
+    children-of-requires
+    walk-requires
+    cast-i
+    mul-counts
+    slice-read-counts
+    add-counts
+    mul-counts-2
+    slice-write-counts
+    same-length
+    returns
+    same-length-2
+    returns-2
+    returns-3)

@@ -1,0 +1,46 @@
+-- What changes a tree: a new one, another action, a mark, marks cleared, a split.
+use mathlib.Core.Bool.{Bool, true, false, cond}
+use mathlib.Core.List.{List, map}
+use Prim.Native.Nat.{ℕ, _+_, _*_}
+use lib.ListN.{set, replicate}
+use lib.Dec.{eqb}
+use Rattle.remy.specs.declared.action.Action.{Action}
+use Rattle.remy.specs.declared.point.Point.{Point}
+use Rattle.rule_tree.specs.declared.Node.{Node}
+use Rattle.rule_tree.specs.declared.RuleTree.{RuleTree}
+use Rattle.rule_tree.specs.Lists.{fill}
+use Rattle.rule_tree.specs.Nodes.{nodeAt, leafWith, parentWith, blankNode}
+
+-- "Node 0 is the root leaf"
+abbrev pub freshTree : Point → Action → RuleTree
+freshTree ends a = record { nodes = set (replicate 513 blankNode) 0 (leafWith a); splits = 0; ends = ends }
+
+abbrev pub withNodes : RuleTree → List Node → RuleTree
+withNodes t nodes = record { nodes = nodes; splits = t .splits; ends = t .ends }
+
+-- set action keeps the mark
+abbrev pub withAction : RuleTree → ℕ → Action → RuleTree
+withAction t i a =
+    withNodes t (set (t .nodes) i (record { action = a; children = nodeAt (t .nodes) i .children; optimized = nodeAt (t .nodes) i .optimized }))
+
+abbrev pub withMark : RuleTree → ℕ → RuleTree
+withMark t i =
+    withNodes t (set (t .nodes) i (record { action = nodeAt (t .nodes) i .action; children = nodeAt (t .nodes) i .children; optimized = true }))
+
+-- marks are of leaves
+unfoldable pub unmarkedNode : Node → Node
+unmarkedNode x = cond (eqb (x .children) 0) (record { action = x .action; children = x .children; optimized = false }) x
+
+abbrev pub withoutMarks : RuleTree → RuleTree
+withoutMarks t = withNodes t (map unmarkedNode (t .nodes))
+
+-- "Split k (from 1) makes one leaf a parent and adds nodes 8k-7 to 8k in child order, each with the parent's action, unmarked"
+unfoldable pub splitAt : RuleTree → ℕ → RuleTree
+unfolding fill
+splitAt t i =
+    let first = 8 * t .splits + 1 in
+    record {
+      nodes = fill (set (t .nodes) i (parentWith first)) first 8 (leafWith (nodeAt (t .nodes) i .action));
+      splits = t .splits + 1;
+      ends = t .ends;
+    }

@@ -1,0 +1,9 @@
+pub mod Lists
+pub mod Nodes
+pub mod Grown
+pub mod Cubes
+pub mod Walk
+pub mod Counts
+pub mod Change
+pub mod Equal
+pub mod Calls

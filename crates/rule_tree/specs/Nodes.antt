@@ -1,0 +1,45 @@
+-- 01, "rule_tree.rs": nodes, leaves and parents.
+use mathlib.Core.Bool.{Bool, true, false, not, _&&_}
+use mathlib.Core.List.{List, map}
+use Prim.Native.Nat.{ℕ, _+_, _*_}
+use lib.ListN.{getD}
+use lib.IntN.{pos}
+use lib.Dec.{eqb}
+use lib.Ieee.{nan}
+use Rattle.remy.specs.declared.action.Action.{Action}
+use Rattle.remy.specs.Action.{actionOf}
+use Rattle.remy.specs.Cube.{zero}
+use Rattle.rule_tree.specs.declared.Node.{Node}
+use Rattle.rule_tree.specs.declared.RuleTree.{RuleTree}
+
+-- what reading past the end of an array of nodes gives
+abbrev pub noNode : Node
+noNode = record { action = actionOf nan (pos 0) nan; children = 0; optimized = false }
+
+abbrev pub nodeAt : List Node → ℕ → Node
+nodeAt nodes i = getD nodes i noNode
+
+-- an unmarked leaf
+abbrev pub leafWith : Action → Node
+leafWith a = record { action = a; children = 0; optimized = false }
+
+-- what a slot that is no leaf holds beside its link: the action (+0, 0, +0)
+abbrev pub noAction : Action
+noAction = actionOf zero (pos 0) zero
+
+-- what a split leaves in the parent, first being its first child
+abbrev pub parentWith : ℕ → Node
+parentWith first = record { action = noAction; children = first; optimized = false }
+
+abbrev pub blankNode : Node
+blankNode = leafWith noAction
+
+abbrev pub childrenOf : List Node → List ℕ
+childrenOf nodes = map (λ (x : Node). x .children) nodes
+
+-- "split k adds nodes 8k-7 to 8k": after s splits there are 1 + 8 s nodes
+abbrev pub nodeCount : ℕ → ℕ
+nodeCount s = 1 + 8 * s
+
+abbrev pub isLeaf : List Node → ℕ → Bool
+isLeaf nodes i = eqb (nodeAt nodes i .children) 0

@@ -1,0 +1,143 @@
+// What changes a tree.
+ghost use mathlib.Core.Path.{_≡_};
+ghost use mathlib.Core.Bool.{true};
+ghost use Prim.Native.Nat.{_≤_, _<_};
+ghost use lib.Dec.{ltb};
+ghost use Rattle.rule_tree.specs.Nodes.{nodeCount};
+ghost use Rattle.rule_tree.specs.Change.{freshTree, withAction, withMark, unmarkedNode, withoutMarks, splitAt};
+ghost use Rattle.rule_tree.specs.Calls.{leafIn};
+use crate::Node;
+use crate::RuleTree;
+use remy::action::Action;
+use remy::point::Point;
+
+pub fn is_node(t: RuleTree, i: u16) -> bool
+    ensures { λ r. ⌜ r ≡ ltb i (nodeCount (t .splits)) ⌝ }
+{
+    (i as u32) < 1 + 8 * (t.splits as u32)
+}
+
+pub fn is_leaf(t: RuleTree, i: u16) -> bool
+    requires { ⌜ t .splits ≤ 64 ⌝ }
+    ensures { λ r. ⌜ r ≡ leafIn t i ⌝ }
+{
+    if is_node(t, i) {
+        let at = i as usize;
+        return t.nodes[at].children == 0;
+    }
+    false
+}
+
+pub fn fresh(ends: Point, action: Action) -> RuleTree
+    ensures { λ r. ⌜ r ≡ freshTree ends action ⌝ }
+{
+    let none = Action::new(0.0, 0, 0.0);
+    let blank = Node {
+        action: none,
+        children: 0,
+        optimized: false,
+    };
+    let leaf = Node {
+        action,
+        children: 0,
+        optimized: false,
+    };
+    let mut nodes = [blank; 513];
+    nodes[0] = leaf;
+    RuleTree {
+        nodes,
+        splits: 0,
+        ends,
+    }
+}
+
+pub fn with_action(t: RuleTree, i: u16, action: Action) -> RuleTree
+    requires { ⌜ i < 513 ⌝ }
+    ensures { λ r. ⌜ r ≡ withAction t i action ⌝ }
+{
+    let at = i as usize;
+    let x = t.nodes[at];
+    let y = Node {
+        action,
+        children: x.children,
+        optimized: x.optimized,
+    };
+    let mut out = t;
+    out.nodes[at] = y;
+    out
+}
+
+pub fn with_mark(t: RuleTree, i: u16) -> RuleTree
+    requires { ⌜ i < 513 ⌝ }
+    ensures { λ r. ⌜ r ≡ withMark t i ⌝ }
+{
+    let at = i as usize;
+    let x = t.nodes[at];
+    let a = x.action;
+    let y = Node {
+        action: a,
+        children: x.children,
+        optimized: true,
+    };
+    let mut out = t;
+    out.nodes[at] = y;
+    out
+}
+
+fn unmarked(x: Node) -> Node
+    ensures { λ r. ⌜ r ≡ unmarkedNode x ⌝ }
+{
+    if x.children == 0 {
+        let a = x.action;
+        return Node {
+            action: a,
+            children: x.children,
+            optimized: false,
+        };
+    }
+    x
+}
+
+pub fn without_marks(t: RuleTree) -> RuleTree
+    ensures { λ r. ⌜ r ≡ withoutMarks t ⌝ }
+{
+    let mut out = t;
+    let mut i: usize = 0;
+    while i < 513 {
+        let x = t.nodes[i];
+        out.nodes[i] = unmarked(x);
+        i += 1;
+    }
+    out
+}
+
+pub fn split_at(t: RuleTree, i: u16) -> RuleTree
+    requires { ⌜ (i < 513) × (t .splits < 64) ⌝ }
+    ensures { λ r. ⌜ r ≡ splitAt t i ⌝ }
+{
+    let at = i as usize;
+    let x = t.nodes[at];
+    let a = x.action;
+    let none = Action::new(0.0, 0, 0.0);
+    let first = 8 * t.splits + 1;
+    let parent = Node {
+        action: none,
+        children: first,
+        optimized: false,
+    };
+    let child = Node {
+        action: a,
+        children: 0,
+        optimized: false,
+    };
+    let mut out = t;
+    out.nodes[at] = parent;
+    let from = first as usize;
+    let mut k: usize = 0;
+    while k < 8 {
+        out.nodes[from + k] = child;
+        k += 1;
+    }
+    out.splits = t.splits + 1;
+    out
+}

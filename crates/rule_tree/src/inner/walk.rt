@@ -1,0 +1,99 @@
+// The walk from the root down to a leaf, and what sits on it.
+ghost use mathlib.Core.Path.{_≡_};
+ghost use mathlib.Core.Bool.{true};
+ghost use Rattle.rule_tree.specs.Grown.{grownOf};
+ghost use Rattle.rule_tree.specs.Walk.{walkOf, Walkable};
+ghost use Rattle.rule_tree.specs.Counts.{countsHold};
+ghost use Rattle.rule_tree.specs.Change.{withAction};
+ghost use Rattle.rule_tree.specs.Calls.{foundIn, leafIn, tallyOf, countedIn};
+use crate::Looked;
+use crate::RuleTree;
+use crate::Tallied;
+use crate::inner::counts;
+use crate::inner::links;
+use remy::action::Action;
+use remy::cube::Cube;
+use remy::point::Point;
+
+// The leaf that a walk ends at, and how many cubes a search in order tests on the way.
+pub struct Reached {
+    pub node: u16,
+    pub tested: u32,
+}
+
+// From the root down to the leaf that holds p.
+pub fn walk(children: &[u16; 513], root: Cube, p: Point) -> Reached
+    requires { ⌜ Walkable (now children) root p ⌝ }
+    ensures { λ r. ⌜ r ≡ walkOf (now (children .entry)) root p ⌝ }
+{
+    let mut cube = root;
+    let mut i: u16 = 0;
+    let mut tested: u32 = 1;
+    let mut c: u16 = children[0];
+    while c != 0 {
+        let step = cube.toward(p);
+        i = c + step.number;
+        cube = step.cube;
+        tested = tested + 1 + (step.number as u32);
+        c = children[i as usize];
+    }
+    Reached { node: i, tested }
+}
+
+// What p finds in a tree that was tested.
+pub fn looked(t: RuleTree, p: Point) -> Looked
+    requires { ⌜ grownOf t ≡ true ⌝ }
+    ensures { λ r. ⌜ r ≡ foundIn t p ⌝ }
+{
+    let e = t.ends;
+    let root = Cube::root(e);
+    if root.contains(p) {
+        let children = links::children_of(t);
+        let i = walk(&children, root, p).node as usize;
+        let x = t.nodes[i];
+        let a = x.action;
+        return Looked::Found(a);
+    }
+    Looked::Nothing
+}
+
+// The same with one leaf's action replaced.
+pub fn looked_replaced(t: RuleTree, leaf: u16, action: Action, p: Point) -> Looked
+    requires { ⌜ (grownOf t ≡ true) × (leafIn t leaf ≡ true) ⌝ }
+    ensures { λ r. ⌜ r ≡ foundIn (withAction t leaf action) p ⌝ }
+{
+    let e = t.ends;
+    let root = Cube::root(e);
+    if root.contains(p) {
+        let children = links::children_of(t);
+        let node = walk(&children, root, p).node;
+        if node == leaf {
+            return Looked::Found(action);
+        }
+        let i = node as usize;
+        let x = t.nodes[i];
+        let a = x.action;
+        return Looked::Found(a);
+    }
+    Looked::Nothing
+}
+
+// One more for the leaf that p reaches.
+pub fn tallied(t: RuleTree, counts: &mut [u64], p: Point) -> Tallied
+    requires { ⌜ (grownOf t ≡ true) × (countsHold t (now counts) ≡ true) ⌝ }
+    ensures { λ r. ⌜ (r ≡ tallyOf t (now (counts .entry)) p) × (now (counts .exit) ≡ countedIn (now (counts .entry)) (tallyOf t (now (counts .entry)) p)) ⌝ }
+{
+    let e = t.ends;
+    let root = Cube::root(e);
+    if root.contains(p) {
+        if counts::capped_total(counts) < 9007199254740992 {
+            let children = links::children_of(t);
+            let node = walk(&children, root, p).node;
+            let i = node as usize;
+            counts[i] = counts[i] + 1;
+            return Tallied::Counted(node);
+        }
+        return Tallied::Refused(23);
+    }
+    Tallied::Nothing
+}

@@ -1,0 +1,288 @@
+// The rule tree: boxes of a sender's memory, with one action a leaf. Every public call tests the tree first.
+ghost use mathlib.Core.Path.{_≡_};
+ghost use mathlib.Core.Bool.{false, true};
+ghost use Rattle.rule_tree.specs.Grown.{grownOf};
+ghost use Rattle.rule_tree.specs.Calls.{newOf, domainOf, lookupOf, replacedOf, tallyOf, countedIn, setOf, markOf, clearOf, splitOf, parentsOf, usedOf, mostUsedOf, equalOf};
+use remy::action::Action;
+use remy::cube::Cube;
+use remy::point::Point;
+
+pub mod inner;
+
+// A node: a leaf where children is 0, else a parent whose first child has that number.
+pub struct Node {
+    pub action: Action,
+    pub children: u16,
+    pub optimized: bool,
+}
+
+pub struct RuleTree {
+    pub nodes: [Node; 513],
+    pub splits: u16,
+    pub ends: Point,
+}
+
+// A tree after a call, or the tree that came and the refusal's number.
+pub struct Changed {
+    pub refused: u32,
+    pub tree: RuleTree,
+}
+
+pub enum Looked {
+    Found(Action),
+    Nothing,
+    Refused(u32),
+}
+
+pub enum Domain {
+    Of(Cube),
+    Refused(u32),
+}
+
+pub enum Tallied {
+    Counted(u16),
+    Nothing,
+    Refused(u32),
+}
+
+pub enum Chosen {
+    Leaf(u16),
+    Nobody,
+    Refused(u32),
+}
+
+pub enum Number {
+    Of(u32),
+    Refused(u32),
+}
+
+pub enum Compared {
+    Same(bool),
+    Refused(u32),
+}
+
+// The tree with one leaf's action replaced.
+pub struct AugmentedRuleTree {
+    pub tree: RuleTree,
+    pub leaf: u16,
+    pub action: Action,
+}
+
+impl AugmentedRuleTree {
+    pub fn action(self, p: Point) -> Looked
+        ensures { λ r. ⌜ r ≡ replacedOf self p ⌝ }
+    {
+        let t = self.tree;
+        let a = self.action;
+        let leaf = self.leaf;
+        if inner::links::grown(t) {
+            if inner::change::is_leaf(t, leaf) {
+                if a.valid() {
+                    return inner::walk::looked_replaced(t, leaf, a, p);
+                }
+                return Looked::Refused(1);
+            }
+            return Looked::Refused(3);
+        }
+        Looked::Refused(10)
+    }
+}
+
+impl RuleTree {
+    // One leaf, the root, with the action.
+    pub fn new(action: Action) -> Changed
+        ensures { λ r. ⌜ r ≡ newOf action ⌝ }
+    {
+        let ends = Point::usual_ends();
+        if action.valid() {
+            let tree = inner::change::fresh(ends, action);
+            return Changed { refused: 0, tree };
+        }
+        let none = Action::new(0.0, 0, 0.0);
+        let tree = inner::change::fresh(ends, none);
+        Changed { refused: 1, tree }
+    }
+
+    // Whether the tree is grown from the root leaf by splits and holds what a tree may hold.
+    pub fn grown(self) -> bool
+        ensures { λ r. ⌜ r ≡ grownOf self ⌝ }
+    {
+        inner::links::grown(self)
+    }
+
+    // The cube of a node.
+    pub fn domain(self, node: u16) -> Domain
+        ensures { λ r. ⌜ r ≡ domainOf self node ⌝ }
+    {
+        if inner::links::grown(self) {
+            if inner::change::is_node(self, node) {
+                let cube = inner::cubes::domain(self, node);
+                return Domain::Of(cube);
+            }
+            return Domain::Refused(3);
+        }
+        Domain::Refused(10)
+    }
+
+    // The action of the leaf that holds p.
+    pub fn action(self, p: Point) -> Looked
+        ensures { λ r. ⌜ r ≡ lookupOf self p ⌝ }
+    {
+        if inner::links::grown(self) {
+            return inner::walk::looked(self, p);
+        }
+        Looked::Refused(10)
+    }
+
+    // One more for the leaf that holds p.
+    pub fn tally(self, counts: &mut [u64], p: Point) -> Tallied
+        ensures { λ r. ⌜ (r ≡ tallyOf self (now (counts .entry)) p) × (now (counts .exit) ≡ countedIn (now (counts .entry)) (tallyOf self (now (counts .entry)) p)) ⌝ }
+    {
+        if inner::links::grown(self) {
+            if inner::counts::counts_hold(self, counts) {
+                return inner::walk::tallied(self, counts, p);
+            }
+            return Tallied::Refused(4);
+        }
+        Tallied::Refused(10)
+    }
+
+    pub fn set_action(self, leaf: u16, action: Action) -> Changed
+        ensures { λ r. ⌜ r ≡ setOf self leaf action ⌝ }
+    {
+        if inner::links::grown(self) {
+            if inner::change::is_leaf(self, leaf) {
+                if action.valid() {
+                    let tree = inner::change::with_action(self, leaf, action);
+                    return Changed { refused: 0, tree };
+                }
+                return Changed {
+                    refused: 1,
+                    tree: self,
+                };
+            }
+            return Changed {
+                refused: 3,
+                tree: self,
+            };
+        }
+        Changed {
+            refused: 10,
+            tree: self,
+        }
+    }
+
+    pub fn mark_optimized(self, leaf: u16) -> Changed
+        ensures { λ r. ⌜ r ≡ markOf self leaf ⌝ }
+    {
+        if inner::links::grown(self) {
+            if inner::change::is_leaf(self, leaf) {
+                let tree = inner::change::with_mark(self, leaf);
+                return Changed { refused: 0, tree };
+            }
+            return Changed {
+                refused: 3,
+                tree: self,
+            };
+        }
+        Changed {
+            refused: 10,
+            tree: self,
+        }
+    }
+
+    pub fn mark_all_unoptimized(self) -> Changed
+        ensures { λ r. ⌜ r ≡ clearOf self ⌝ }
+    {
+        if inner::links::grown(self) {
+            let tree = inner::change::without_marks(self);
+            return Changed { refused: 0, tree };
+        }
+        Changed {
+            refused: 10,
+            tree: self,
+        }
+    }
+
+    pub fn split(self, leaf: u16) -> Changed
+        ensures { λ r. ⌜ r ≡ splitOf self leaf ⌝ }
+    {
+        if inner::links::grown(self) {
+            if inner::change::is_leaf(self, leaf) {
+                if self.splits < 64 {
+                    let tree = inner::change::split_at(self, leaf);
+                    return Changed { refused: 0, tree };
+                }
+                return Changed {
+                    refused: 20,
+                    tree: self,
+                };
+            }
+            return Changed {
+                refused: 3,
+                tree: self,
+            };
+        }
+        Changed {
+            refused: 10,
+            tree: self,
+        }
+    }
+
+    pub fn num_parents(self) -> Number
+        ensures { λ r. ⌜ r ≡ parentsOf self ⌝ }
+    {
+        if inner::links::grown(self) {
+            return Number::Of(inner::links::num_parents(self));
+        }
+        Number::Refused(10)
+    }
+
+    pub fn num_used_rules(self, counts: &[u64]) -> Number
+        ensures { λ r. ⌜ r ≡ usedOf self (now (counts .entry)) ⌝ }
+    {
+        if inner::links::grown(self) {
+            if inner::counts::counts_hold(self, counts) {
+                return Number::Of(inner::counts::used(counts));
+            }
+            return Number::Refused(4);
+        }
+        Number::Refused(10)
+    }
+
+    pub fn most_used_rule(self, counts: &[u64]) -> Chosen
+        ensures { λ r. ⌜ r ≡ mostUsedOf false self (now (counts .entry)) ⌝ }
+    {
+        if inner::links::grown(self) {
+            if inner::counts::counts_hold(self, counts) {
+                return inner::counts::most_used(self, counts, false);
+            }
+            return Chosen::Refused(4);
+        }
+        Chosen::Refused(10)
+    }
+
+    pub fn most_used_unoptimized_rule(self, counts: &[u64]) -> Chosen
+        ensures { λ r. ⌜ r ≡ mostUsedOf true self (now (counts .entry)) ⌝ }
+    {
+        if inner::links::grown(self) {
+            if inner::counts::counts_hold(self, counts) {
+                return inner::counts::most_used(self, counts, true);
+            }
+            return Chosen::Refused(4);
+        }
+        Chosen::Refused(10)
+    }
+
+    // Equal cubes and actions all the way down, marks left out.
+    pub fn equals(self, other: RuleTree) -> Compared
+        ensures { λ r. ⌜ r ≡ equalOf self other ⌝ }
+    {
+        if inner::links::grown(self) {
+            if inner::links::grown(other) {
+                return Compared::Same(inner::equal::equal(self, other));
+            }
+        }
+        Compared::Refused(10)
+    }
+}

@@ -1,0 +1,11 @@
+pub mod Family
+pub mod Partition
+pub mod SplitLinks
+pub mod Splitting
+pub mod Sound
+pub mod Unsplit
+pub mod Growth
+pub mod GrowthTest
+pub mod EqualSelf
+pub mod Equality
+pub mod Lens

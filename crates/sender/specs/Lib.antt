@@ -1,0 +1,5 @@
+pub mod Memory
+pub mod Acks
+pub mod Sender
+pub mod Face
+pub mod Run

@@ -1,0 +1,11 @@
+pub mod Lists
+pub mod Product
+pub mod Axis
+pub mod Whole
+pub mod Holds
+pub mod Pick
+pub mod CandidateLaws
+pub mod AcceptWays
+pub mod AcceptedFacts
+pub mod Steps
+pub mod Accepting

@@ -1,0 +1,93 @@
+-- What each public call on a trainer answers, refusals first and in 01's order.
+use mathlib.Core.Bool.{Bool, true, false, _&&_, _||_, cond}
+use mathlib.Core.List.{List}
+use Prim.Native.Nat.{ℕ, _+_}
+use lib.ListN.{getD}
+use lib.Dec.{eqb}
+use lib.IntN.{pos}
+use lib.Ieee.{Float, binary64, div, ofInt}
+use Rattle.remy.specs.Cube as cube
+use Rattle.rule_tree.specs.Change.{freshTree}
+use Rattle.rule_tree.specs.Nodes.{noAction}
+use Rattle.rule_tree.specs.Counts.{countsHold}
+use Rattle.rule_tree.specs.Calls.{blankTree}
+use Rattle.trainer.specs.declared.settings.Settings.{Settings}
+use Rattle.trainer.specs.declared.Trainer.{Trainer}
+use Rattle.trainer.specs.declared.Answered.{Answered}
+use Rattle.trainer.specs.declared.Question.{Question}
+use Rattle.trainer.specs.declared.Question.the-variants as question
+use Rattle.trainer.specs.Settings.{settingsHold}
+use Rattle.trainer.specs.Candidates.{candidatesOf, noCandidate}
+use Rattle.trainer.specs.State.{stand, acceptedOf, leafAction}
+use Rattle.trainer.specs.Phases.{refuse, taken, beginRound, phase1, phase2, phase3, phase4, phase5, phase6}
+
+-- the trainer that a refused start hands back
+abbrev pub blankSettings : Settings
+blankSettings =
+    record {
+      «rule_splits» = 0;
+      rounds = 0;
+      multiplier = 0;
+      drill = false;
+      «min_action» = noAction;
+      «max_action» = noAction;
+      «initial_change» = noAction;
+      «max_change» = noAction;
+      «default_action» = noAction;
+    }
+
+abbrev pub blankTrainer : Trainer
+blankTrainer = stand blankSettings blankTree 0 0 0
+
+-- "Start: default leaf, then begin stage 0"
+abbrev pub started : Settings → Trainer
+started s = beginRound s (freshTree cube.usualEnds (s .«default_action»)) 0 0
+
+-- start: 2
+unfoldable pub startOf : Settings → Answered
+startOf s = cond (settingsHold s) (taken (started s)) (refuse 2 blankTrainer)
+
+-- "progress stage / (rule_splits + 1) in floats"
+abbrev pub progressOf : Trainer → Float
+progressOf t = div binary64 (ofInt binary64 (pos (t .stage))) (ofInt binary64 (pos (t .settings .«rule_splits» + 1)))
+
+-- "The question is the phase's kind, with leaf and action in 4 and 5, and progress"
+unfoldable pub askedOf : Trainer → Question
+askedOf t =
+    cond (eqb (t .phase) 4) (question.Score (t .leaf) (leafAction t) (progressOf t))
+    (cond (eqb (t .phase) 5)
+    (question.Score (t .leaf) (getD (candidatesOf (t .settings) (leafAction t)) (t .k) noCandidate) (progressOf t))
+    (cond (eqb (t .phase) 7) (question.Done (progressOf t)) (question.Counts (progressOf t))))
+
+-- question: 10
+unfoldable pub questionOf : Trainer → Question
+unfolding askedOf
+questionOf t = cond (acceptedOf t) (askedOf t) (question.Refused 10)
+
+abbrev pub wantsCounts : ℕ → Bool
+wantsCounts phase = eqb phase 1 || (eqb phase 2 || (eqb phase 3 || eqb phase 6))
+
+abbrev pub wantsScore : ℕ → Bool
+wantsScore phase = eqb phase 4 || eqb phase 5
+
+unfoldable pub countsStep : Trainer → List ℕ → Answered
+countsStep t xs =
+    cond (eqb (t .phase) 1) (phase1 t xs)
+    (cond (eqb (t .phase) 2) (phase2 t xs) (cond (eqb (t .phase) 3) (phase3 t xs) (phase6 t)))
+
+-- answer with counts: 10, 21, 4, 20
+unfoldable pub answerCountsOf : Trainer → List ℕ → Answered
+unfolding countsStep
+answerCountsOf t xs =
+    cond (acceptedOf t)
+    (cond (wantsCounts (t .phase)) (cond (countsHold (t .tree) xs) (countsStep t xs) (refuse 4 t)) (refuse 21 t))
+    (refuse 10 t)
+
+unfoldable pub scoreStep : Trainer → Float → Trainer
+scoreStep t x = cond (eqb (t .phase) 4) (phase4 t x) (phase5 t x)
+
+-- answer with a score: 10, 21
+unfoldable pub answerScoreOf : Trainer → Float → Answered
+unfolding scoreStep
+answerScoreOf t x =
+    cond (acceptedOf t) (cond (wantsScore (t .phase)) (taken (scoreStep t x)) (refuse 21 t)) (refuse 10 t)

@@ -1,0 +1,7 @@
+pub mod Settings
+pub mod Candidates
+pub mod Axes
+pub mod State
+pub mod Phases
+pub mod Calls
+pub mod Fields

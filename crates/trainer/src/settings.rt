@@ -1,0 +1,33 @@
+// What a training run is set to.
+ghost use mathlib.Core.Path.{_≡_};
+ghost use Rattle.trainer.specs.Settings.{settingsHold};
+use crate::inner::axes;
+use remy::action::Action;
+
+pub struct Settings {
+    pub rule_splits: u32,
+    pub rounds: u32,
+    pub multiplier: u32,
+    pub drill: bool,
+    pub min_action: Action,
+    pub max_action: Action,
+    pub initial_change: Action,
+    pub max_change: Action,
+    pub default_action: Action,
+}
+
+impl Settings {
+    // Whether a trainer may be set so.
+    pub fn hold(self) -> bool
+        ensures { λ r. ⌜ r ≡ settingsHold self ⌝ }
+    {
+        if axes::numbers_hold(self) {
+            if axes::actions_hold(self) {
+                if axes::changes_hold(self) {
+                    return axes::axes_hold(self);
+                }
+            }
+        }
+        false
+    }
+}

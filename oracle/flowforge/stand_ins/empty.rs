@@ -1,0 +1,1 @@
+// Networks and their components are left out.

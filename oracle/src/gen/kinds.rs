@@ -1,0 +1,452 @@
+//! The kinds of scripts.
+
+use flowforge::trainers::remy::RemyTrainer;
+
+use super::{
+    author::Author,
+    records::unchecked,
+    values::{
+        bad_action, calm_header, edge_settings, near_action, small_settings, step, valid_action,
+        vary_settings,
+    },
+    Dice, KINDS,
+};
+use crate::{
+    plain::{Phase, Sender, Trainer},
+    rust::of_settings,
+    script::{repeat, Call, Writer},
+};
+
+/// Training to the end, and a little past it.
+pub fn train(mut dice: Dice) -> Vec<u8> {
+    let large = dice.one_in(25);
+    let mut settings = small_settings(&mut dice, if large { 3 } else { 1 });
+    if large {
+        settings.rule_splits = dice.within(1, 8) as u32;
+    }
+    let header = calm_header(settings, &mut dice);
+    let mut author = Author::new(dice, &header);
+    author.finish(if large { 6000 } else { 600 }, 12);
+    for _ in 0..author.dice.below(3) {
+        author.bad_answer();
+    }
+    author.done()
+}
+
+/// The settings of `RemyTrainer::default`, few splits.
+pub fn usual(mut dice: Dice) -> Vec<u8> {
+    let mut settings = of_settings(&RemyTrainer::default());
+    if !dice.one_in(4) {
+        settings.rule_splits = dice.within(0, 2) as u32;
+        settings.rounds = dice.within(1, 2) as u32;
+    }
+    let header = calm_header(settings, &mut dice);
+    let mut author = Author::new(dice, &header);
+    let answers = if author.dice.one_in(400) { 60_000 } else { author.dice.pick(&[40, 80, 160, 2500]) };
+    author.finish(answers, 20);
+    author.done()
+}
+
+/// Down to the 64th split and past it.
+pub fn drill(mut dice: Dice) -> Vec<u8> {
+    let mut settings = small_settings(&mut dice, 1);
+    settings.rule_splits = dice.pick(&[1, 2, 40, 63, 64]);
+    settings.rounds = dice.pick(&[0, 0, 1]);
+    settings.drill = !dice.one_in(4);
+    let header = calm_header(settings, &mut dice);
+    let mut author = Author::new(dice, &header);
+    let style = author.dice.below(5);
+    let splits = if author.dice.one_in(3) { 70 } else { author.dice.within(1, 30) };
+    let mut answers = 0;
+    while author.trainer.tree.splits.len() < splits && answers < 150 {
+        answers += 1;
+        if author.wants_score() || matches!(author.trainer.phase, Phase::Choose) {
+            author.good_answer();
+            continue;
+        }
+        let mut counts = vec![0; author.trainer.tree.nodes.len()];
+        let newest = counts.len() - 1;
+        let node = match style {
+            0 => newest,
+            1 => newest.saturating_sub(7),
+            2 => author.leaf(),
+            3 => newest.saturating_sub(author.dice.below(8)),
+            _ => newest,
+        };
+        if style < 4 && author.trainer.tree.leaf(node).is_ok() {
+            counts[node] = 1;
+        }
+        author.call(Call::Counts(counts));
+        if author.dice.one_in(6) {
+            author.aside();
+        }
+        if author.trainer.tree.splits.len() == 64 {
+            splits_are_full(&mut author);
+            break;
+        }
+    }
+    author.finish(20, 4);
+    author.done()
+}
+
+pub fn splits_are_full(author: &mut Author) {
+    for _ in 0..author.dice.within(1, 4) {
+        match author.dice.below(4) {
+            0 => author.bad_answer(),
+            1 => {
+                let score = author.score();
+                author.call(Call::Score(score));
+            }
+            2 => author.call(Call::Reload(author.dice.clone().pick(&[9_707, 9_708, 9_709]))),
+            _ => {
+                let used = author.dice.below(2);
+                let counts = author.counts(used);
+                author.call(Call::Counts(counts));
+            }
+        }
+    }
+    if author.dice.one_in(4) {
+        author.call(Call::PrintTree);
+    }
+    let point = author.point();
+    author.call(Call::Lookup(point));
+}
+
+/// Every refusal of an answer, between good ones.
+pub fn refuse(dice: Dice) -> Vec<u8> {
+    let mut author = Author::small(dice);
+    if author.dice.one_in(3) {
+        let splits = author.dice.pick(&[1, 2, 3, 64]);
+        author.load_crafted(splits);
+    }
+    let answers = author.dice.within(5, 40);
+    for _ in 0..answers {
+        for _ in 0..author.dice.below(4) {
+            author.bad_answer();
+        }
+        if author.dice.one_in(6) {
+            let size = author.trainer.record().len() as u16;
+            let length = author.dice.pick(&[0, 1, size - 1, size, size + 1]);
+            author.call(Call::Reload(length));
+        }
+        if author.wants_score() && author.dice.one_in(3) {
+            let counts = author.some_counts();
+            author.call(Call::Counts(counts));
+        }
+        author.good_answer();
+    }
+    author.done()
+}
+
+/// Saves with every length of buffer, and loads of what was saved.
+pub fn reload(dice: Dice) -> Vec<u8> {
+    let mut author = Author::small(dice);
+    let answers = author.dice.within(3, 50);
+    for _ in 0..answers {
+        if author.dice.one_in(2) {
+            let size = author.trainer.record().len() as u16;
+            let length = author.dice.pick(&[size, size, size, u16::MAX, size - 1, size + 1, 0]);
+            author.call(Call::Reload(length));
+        }
+        if !author.saved.is_empty() && author.dice.one_in(6) {
+            let at = author.dice.below(author.saved.len());
+            let record = author.saved[at].clone();
+            author.call(Call::Load(record));
+        }
+        if author.dice.one_in(30) {
+            let splits = author.some_splits();
+            author.load_crafted(splits);
+        }
+        if author.dice.one_in(8) {
+            author.aside();
+        }
+        author.good_answer();
+    }
+    author.done()
+}
+
+/// Acks, sends, ticks and wakes in every mode of repeat.
+pub fn sender(mut dice: Dice) -> Vec<u8> {
+    let settings = small_settings(&mut dice, 1);
+    let mut header = calm_header(settings, &mut dice);
+    header.mode = dice.pick(&[0, 1, 2, 2]);
+    (header.lo, header.hi) = match dice.below(6) {
+        0 => (0, 0),
+        1 => (u32::MAX - 1, u32::MAX - 1),
+        2 => (0, u32::MAX - 1),
+        3 if header.mode == 1 => (u32::MAX, 0),
+        4 if header.mode != 2 => (9, 3),
+        _ => (dice.below(3) as u32, dice.within(2, 5) as u32),
+    };
+    let mut author = Author::new(dice, &header);
+    if !author.dice.one_in(3) {
+        let splits = author.some_splits();
+        author.load_crafted(splits);
+    }
+    let events = author.dice.pick(&[5, 30, 30, 120]);
+    let edges = author.dice.pick(&[3, 10, 1000]);
+    for _ in 0..events {
+        let mut ack = author.ack();
+        if author.dice.one_in(edges) {
+            ack.sent = author.edge_moment();
+        }
+        if author.dice.one_in(edges) {
+            ack.received = author.edge_moment();
+        }
+        if author.dice.one_in(edges) {
+            ack.received = ack.sent;
+        }
+        if author.dice.one_in(3) {
+            ack.draw = author.dice.pick(&[
+                Some(header.lo),
+                Some(header.hi),
+                None,
+                Some(header.hi.wrapping_add(1)),
+                Some(header.lo.wrapping_sub(1)),
+            ]);
+        }
+        let moment = if author.dice.one_in(edges) { author.edge_moment() } else { author.moment() };
+        let call = match author.dice.below(10) {
+            0 => Call::Send(moment),
+            1 => Call::Tick,
+            2 => Call::Wake(moment),
+            _ => Call::Ack(ack),
+        };
+        author.call(call);
+        if author.dice.one_in(25) {
+            author.good_answer();
+        }
+    }
+    author.done()
+}
+
+/// Lookups on edges and middles, with one action replaced, and tallies.
+pub fn lookup(dice: Dice) -> Vec<u8> {
+    let mut author = Author::small(dice);
+    let calls = author.dice.within(5, 60);
+    let splits = author.some_splits();
+    author.load_crafted(splits);
+    for _ in 0..calls {
+        let point = author.point();
+        let call = match author.dice.below(5) {
+            0 | 1 => Call::Lookup(point),
+            2 => {
+                let nodes = author.trainer.tree.nodes.len();
+                let mut leaf = author.dice.pick(&[0, nodes - 1, nodes, 65_535]) as u16;
+                if author.dice.one_in(2) {
+                    leaf = author.trainer.tree.reached(&point).unwrap_or(0) as u16;
+                } else if author.dice.one_in(2) {
+                    leaf = author.dice.below(nodes) as u16;
+                }
+                let dice = &mut author.dice;
+                let action = if dice.one_in(5) { bad_action(dice) } else { valid_action(dice) };
+                Call::LookupReplaced(leaf, action, point)
+            }
+            _ => Call::Tally(point),
+        };
+        author.call(call);
+        if author.dice.one_in(30) {
+            let splits = if author.dice.one_in(2) {
+                author.trainer.tree.splits.len()
+            } else {
+                author.some_splits().min(8)
+            };
+            author.load_crafted(splits);
+        }
+    }
+    if author.dice.one_in(4) {
+        author.call(Call::PrintTree);
+    }
+    author.done()
+}
+
+/// Candidates at the limits of the settings.
+pub fn candidate(mut dice: Dice) -> Vec<u8> {
+    let settings = if dice.one_in(2) { edge_settings(&mut dice) } else { small_settings(&mut dice, 8) };
+    let header = calm_header(settings, &mut dice);
+    let mut author = Author::new(dice, &header);
+    for _ in 0..author.dice.within(3, 25) {
+        let settings = author.trainer.settings.clone();
+        let dice = &mut author.dice;
+        let mut action = match dice.below(10) {
+            0 => bad_action(dice),
+            1 => valid_action(dice),
+            2 => settings.default,
+            _ => near_action(&settings, dice),
+        };
+        if dice.one_in(4) {
+            action.multiplier = step(action.multiplier, dice);
+            action.delay = step(action.delay, dice);
+        }
+        let length = if action.valid() { settings.candidates(&action).len() as u32 } else { 0 };
+        let k = match dice.below(6) {
+            0 => 0,
+            1 => length,
+            2 => length.saturating_sub(1),
+            3 => u32::MAX,
+            _ => dice.below(length as usize + 2) as u32,
+        };
+        author.call(Call::Candidate(action, k));
+        if author.dice.one_in(8) {
+            let settings = edge_settings(&mut author.dice);
+            let trainer = Trainer::start(settings).expect("settings that hold");
+            author.call(Call::Load(trainer.record()));
+        }
+    }
+    if author.dice.one_in(3) {
+        author.load_crafted(0);
+    }
+    author.finish(10, 0);
+    author.done()
+}
+
+/// Damaged records.
+pub fn damage(dice: Dice) -> Vec<u8> {
+    let mut author = Author::small(dice);
+    let splits = author.some_splits();
+    let record = author.crafted(splits).record();
+    let whole = record.len() < 400 && author.dice.one_in(3);
+    let at: Vec<usize> = if whole {
+        (0..record.len()).collect()
+    } else {
+        (0..author.dice.within(3, 12)).map(|_| author.damaged_place(&record)).collect()
+    };
+    for place in at {
+        let mut damaged = record.clone();
+        damaged[place] = match author.dice.below(6) {
+            0 => 0,
+            1 => 0xff,
+            2 => 0x7f,
+            3 => damaged[place].wrapping_add(1),
+            4 => damaged[place] ^ (1 << author.dice.below(8)),
+            _ => author.dice.next() as u8,
+        };
+        let call = if author.dice.one_in(4) { Call::Equal(damaged) } else { Call::Load(damaged) };
+        author.call(call);
+    }
+    for _ in 0..author.dice.within(1, 4) {
+        let bent = author.bent(&record);
+        author.call(Call::Load(bent));
+    }
+    let mut trainer = author.crafted(splits.min(3));
+    trainer.settings.rounds = trainer.settings.rounds.max(1);
+    for _ in 0..author.dice.within(4, 24) {
+        let edged = author.edged(&trainer);
+        author.call(Call::Load(edged));
+    }
+    if author.dice.one_in(2) {
+        author.call(Call::Load(record));
+        author.finish(4, 0);
+    }
+    author.done()
+}
+
+/// Trees that are equal, nearly equal and not.
+pub fn equal(dice: Dice) -> Vec<u8> {
+    let mut author = Author::small(dice);
+    for _ in 0..author.dice.within(1, 3) {
+        let splits = author.some_splits();
+        let one = author.crafted(splits);
+        author.call(Call::Load(one.record()));
+        for _ in 0..author.dice.within(1, 6) {
+            let mut other = author.another_order(&author.trainer.clone());
+            author.vary(&mut other);
+            author.call(Call::Equal(other.record()));
+        }
+    }
+    author.done()
+}
+/// Headers, most of them with one thing wrong or at its limit.
+pub fn header(mut dice: Dice) -> Vec<u8> {
+    let settings = if dice.one_in(2) { edge_settings(&mut dice) } else { small_settings(&mut dice, 8) };
+    let mut header = calm_header(settings, &mut dice);
+    match dice.below(6) {
+        0 => header.drill = dice.pick(&[0, 1, 2, 255]),
+        1 => header.mode = dice.pick(&[3, 255, 2]),
+        2 => {
+            let (lo, hi) =
+                dice.pick(&[(0, u32::MAX), (0, u32::MAX - 1), (5, 4), (5, 5), (u32::MAX, u32::MAX)]);
+            (header.mode, header.lo, header.hi) = (2, lo, hi);
+        }
+        _ => vary_settings(&mut header.settings, &mut dice),
+    }
+    let whole = header.drill <= 1
+        && header.settings.check().is_ok()
+        && repeat(&header).is_some_and(|r| Sender::new(r).is_ok());
+    if !whole {
+        let mut script = Writer::new(&header).bytes;
+        script.truncate(if dice.one_in(8) { dice.below(script.len()) } else { script.len() });
+        return script;
+    }
+    header.settings.drill = header.drill == 1;
+    let mut author = Author::new(dice, &header);
+    author.finish(3, 2);
+    author.done()
+}
+
+/// Records of fresh trainers, each with one setting at or past a limit.
+pub fn limits(dice: Dice) -> Vec<u8> {
+    let mut author = Author::small(dice);
+    for _ in 0..author.dice.within(5, 40) {
+        let dice = &mut author.dice;
+        let mut settings = if dice.one_in(3) { edge_settings(dice) } else { small_settings(dice, 8) };
+        vary_settings(&mut settings, dice);
+        let action = near_action(&settings, dice);
+        let record = unchecked(settings).record();
+        let call = if dice.one_in(8) { Call::Equal(record) } else { Call::Load(record) };
+        let k = dice.below(20) as u32;
+        author.call(call);
+        author.call(Call::Candidate(action, k));
+    }
+    author.done()
+}
+
+/// A script of another kind that is cut, or goes on with what is no call.
+pub fn cut(mut dice: Dice) -> Vec<u8> {
+    let others: Vec<_> = KINDS.iter().filter(|(name, _)| *name != "cut").collect();
+    let (_, author) = others[dice.below(others.len())];
+    let mut script = author(Dice(dice.next()));
+    if dice.one_in(2) {
+        script.truncate(dice.below(script.len() + 1));
+        return script;
+    }
+    match dice.below(5) {
+        0 => script.push(dice.pick(&[0, 15, 16, 255])),
+        1 => script.extend([1, 2, 89]),
+        2 => script.extend([dice.pick(&[13, 14]), 0, 0, 0x40, 0x75]),
+        3 => script.extend([13, 0, 0, 0x40, 0x74]),
+        _ => script.extend([dice.within(1, 14) as u8]),
+    }
+    if dice.one_in(2) {
+        script.extend(vec![0; dice.below(20_000)]);
+    }
+    script
+}
+
+/// All calls in any order.
+pub fn mixed(dice: Dice) -> Vec<u8> {
+    let mut author = Author::small(dice);
+    for _ in 0..author.dice.within(5, 80) {
+        match author.dice.below(20) {
+            0..=6 => author.good_answer(),
+            7 => author.bad_answer(),
+            8 if author.dice.one_in(3) => {
+                let splits = author.some_splits();
+                author.load_crafted(splits);
+            }
+            9 if !author.saved.is_empty() => {
+                let at = author.dice.below(author.saved.len());
+                let record = author.saved[at].clone();
+                let call = if author.dice.one_in(2) { Call::Load(record) } else { Call::Equal(record) };
+                author.call(call);
+            }
+            10 => {
+                let (one, other) = (author.edge_moment(), author.edge_moment());
+                author.call(Call::Send(one));
+                author.call(Call::Wake(other));
+            }
+            _ => author.aside(),
+        }
+    }
+    author.done()
+}
