@@ -1,0 +1,10 @@
+pub mod Decimal
+pub mod Texts
+pub mod Reading
+pub mod Shares
+pub mod Lines
+pub mod Room
+pub mod Ways
+pub mod PanelLaws
+pub mod Saved
+pub mod Fresh

@@ -1,0 +1,4 @@
+pub mod Gathering
+pub mod NodeArray
+pub mod Parents
+pub mod Viewed
