@@ -1,0 +1,23 @@
+-- `knellstone_answer_score` answers what the call that it makes answers. Assumes nothing.
+use borrow.Author.Needs.{needs}
+use mathlib.Core.Path.{ap, _∙_}
+use Rattle.host.specs.Answers.{answerOf}
+use Rattle.host.proofs.knellstone_answer_score.Statement.{statement}
+use Rattle.host.proofs.knellstone_answer_score.Tie as tie
+
+answer-score-requires : tie.Need-answer-score-requires
+answer-score-requires c κs = search needs
+
+answer-requires : tie.Need-answer-requires
+answer-requires c κs = search needs
+
+same-length : tie.Need-same-length
+same-length c = search needs
+
+returns : tie.Need-returns
+returns c =
+    let made = c .before .before .before .answer-score .ensures in
+    (c .answer .ensures ∙ ap answerOf (made .0), made .1)
+
+pub knellstone-answer-score-spec : {M : Type 1} → statement M
+knellstone-answer-score-spec = tie.close (tie.spec answer-score-requires answer-requires same-length returns)

@@ -1,0 +1,123 @@
+// The library for hosts in C and Rust: every function works on numbers and byte slices, is total on any bytes, and answers a size or
+// 2^63 plus the number of a refusal.
+ghost use mathlib.Core.Path.{_≡_};
+ghost use Rattle.record.specs.Calls.{loadOf};
+ghost use Rattle.panel_lines.specs.Panel.{panelOf, outAfter};
+ghost use Rattle.host_trainer.specs.Records.{startIn, scoreAnswered, countsAnswered, writtenOf, recordAfter};
+ghost use Rattle.host_trainer.specs.Questions.{askedIn, askedAfter};
+ghost use Rattle.host_trainer.specs.Lookups.{lookups, lookupsAfter, replaced, replacedAfter};
+ghost use Rattle.host_sender.specs.Layout.{newIn, newAfter};
+ghost use Rattle.host_sender.specs.Events.{events as eventsOf, senderLeft, repliesLeft};
+ghost use Rattle.host.specs.Answers.{answerOf, linesOf};
+use panel_lines::Shown;
+use record::Saved;
+
+fn answer(s: Saved) -> u64
+    ensures { λ r. ⌜ r ≡ answerOf s ⌝ }
+{
+    match s {
+        Saved::Size(n) => n as u64,
+        Saved::Refused(k) => 9223372036854775808 + (k as u64),
+    }
+}
+
+fn lines(s: Shown) -> u64
+    ensures { λ r. ⌜ r ≡ linesOf s ⌝ }
+{
+    match s {
+        Shown::Size(n) => n as u64,
+        Shown::Refused(k) => 9223372036854775808 + (k as u64),
+    }
+}
+
+// Starts a trainer by its settings and writes its record.
+#[no_mangle]
+pub extern "C" fn knellstone_start(settings: &[u8], out: &mut [u8]) -> u64
+    ensures { λ r. ⌜ (r ≡ answerOf (writtenOf (startIn (now (settings .entry))) (now (out .entry)))) × (now (out .exit) ≡ recordAfter (startIn (now (settings .entry))) (now (out .entry))) ⌝ }
+{
+    let s = host_trainer::start(settings, out);
+    answer(s)
+}
+
+// What the trainer of a record asks.
+#[no_mangle]
+pub extern "C" fn knellstone_question(held: &[u8], out: &mut [u8]) -> u64
+    ensures { λ r. ⌜ (r ≡ answerOf (askedIn (now (held .entry)) (now (out .entry)))) × (now (out .exit) ≡ askedAfter (now (held .entry)) (now (out .entry))) ⌝ }
+{
+    let s = host_trainer::question(held, out);
+    answer(s)
+}
+
+// Answers with counts, and writes the next record.
+#[no_mangle]
+pub extern "C" fn knellstone_answer_counts(held: &[u8], counts: &[u8], out: &mut [u8]) -> u64
+    ensures { λ r. ⌜ (r ≡ answerOf (writtenOf (countsAnswered (now (held .entry)) (now (counts .entry))) (now (out .entry)))) × (now (out .exit) ≡ recordAfter (countsAnswered (now (held .entry)) (now (counts .entry))) (now (out .entry))) ⌝ }
+{
+    let s = host_trainer::answer_counts(held, counts, out);
+    answer(s)
+}
+
+// Answers with a score, by its bits, and writes the next record.
+#[no_mangle]
+pub extern "C" fn knellstone_answer_score(held: &[u8], bits: u64, out: &mut [u8]) -> u64
+    ensures { λ r. ⌜ (r ≡ answerOf (writtenOf (scoreAnswered (now (held .entry)) bits) (now (out .entry)))) × (now (out .exit) ≡ recordAfter (scoreAnswered (now (held .entry)) bits) (now (out .entry))) ⌝ }
+{
+    let s = host_trainer::answer_score(held, bits, out);
+    answer(s)
+}
+
+// What each point finds in the tree of a record's trainer.
+#[no_mangle]
+pub extern "C" fn knellstone_lookup(held: &[u8], points: &[u8], out: &mut [u8]) -> u64
+    ensures { λ r. ⌜ (r ≡ answerOf (lookups (now (held .entry)) (now (points .entry)) (now (out .entry)))) × (now (out .exit) ≡ lookupsAfter (now (held .entry)) (now (points .entry)) (now (out .entry))) ⌝ }
+{
+    let s = host_trainer::lookup(held, points, out);
+    answer(s)
+}
+
+// The same with one leaf's action replaced.
+#[no_mangle]
+pub extern "C" fn knellstone_lookup_replaced(
+    held: &[u8],
+    leaf: u16,
+    action: &[u8],
+    points: &[u8],
+    out: &mut [u8],
+) -> u64
+    ensures { λ r. ⌜ (r ≡ answerOf (replaced (now (held .entry)) leaf (now (action .entry)) (now (points .entry)) (now (out .entry)))) × (now (out .exit) ≡ replacedAfter (now (held .entry)) leaf (now (action .entry)) (now (points .entry)) (now (out .entry))) ⌝ }
+{
+    let s = host_trainer::lookup_replaced(held, leaf, action, points, out);
+    answer(s)
+}
+
+// A fresh sender by its repeat mode.
+#[no_mangle]
+pub extern "C" fn knellstone_sender(mode: &[u8], out: &mut [u8]) -> u64
+    ensures { λ r. ⌜ (r ≡ answerOf (newIn (now (mode .entry)) (now (out .entry)))) × (now (out .exit) ≡ newAfter (now (mode .entry)) (now (out .entry)) (newIn (now (mode .entry)) (now (out .entry)))) ⌝ }
+{
+    let s = host_sender::new(mode, out);
+    answer(s)
+}
+
+// Acks, sends and ticks in turn, over the tree of a record's trainer.
+#[no_mangle]
+pub extern "C" fn knellstone_events(
+    held: &[u8],
+    sender: &mut [u8],
+    list: &[u8],
+    out: &mut [u8],
+) -> u64
+    ensures { λ r. ⌜ (r ≡ answerOf (eventsOf (now (held .entry)) (now (sender .entry)) (now (list .entry)) (now (out .entry)))) × ((now (sender .exit) ≡ senderLeft (loadOf (now (held .entry)) .trainer .tree) (now (sender .entry)) (now (list .entry)) (eventsOf (now (held .entry)) (now (sender .entry)) (now (list .entry)) (now (out .entry)))) × (now (out .exit) ≡ repliesLeft (loadOf (now (held .entry)) .trainer .tree) (now (sender .entry)) (now (list .entry)) (now (out .entry)) (eventsOf (now (held .entry)) (now (sender .entry)) (now (list .entry)) (now (out .entry))))) ⌝ }
+{
+    let s = host_sender::events(held, sender, list, out);
+    answer(s)
+}
+
+// The panel's lines of a record followed by its counts.
+#[no_mangle]
+pub extern "C" fn knellstone_panel(input: &[u8], out: &mut [u8]) -> u64
+    ensures { λ r. ⌜ (r ≡ linesOf (panelOf (now (input .entry)) (now (out .entry)))) × (now (out .exit) ≡ outAfter (now (input .entry)) (now (out .entry)) (panelOf (now (input .entry)) (now (out .entry)))) ⌝ }
+{
+    let s = panel_lines::panel(input, out);
+    lines(s)
+}

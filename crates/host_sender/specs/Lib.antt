@@ -1,0 +1,4 @@
+pub mod Layout
+pub mod Events
+pub mod Parts
+pub mod Values

@@ -1,0 +1,132 @@
+-- The settings and the trainer that bytes stand for fit their types. Assumes nothing.
+use mathlib.Core.Path.{_≡_, sym, ap, subst}
+use mathlib.Core.Bool.{Bool, true, false, cond}
+use mathlib.Core.List.{List, [], _∷_}
+use Prim.Native.Nat.{ℕ, zero, suc, _+_, _*_, _^_, _<_}
+use native.Mathlib.Nat.{pow-suc}
+use native.Mathlib.Omega.{arith}
+use lib.Dec.{ltb}
+use lib.ListN.{getD, take, drop}
+use lib.Ieee.{binary64, fits}
+use lib.Ieee.Bits.{ofBits-fits}
+use mir.Syntax.{w32}
+use mir.ValLaws.{toZ-fits}
+use Rattle.rule_tree.specs.declared.Node.{Node}
+use Rattle.rule_tree.specs.Nodes.{noNode, parentWith, blankNode, nodeCount}
+use Rattle.rule_tree.proofs.Plain.{ActionFits}
+use Rattle.rule_tree.proofs.Lists.{length-tabulate, getD-tabulate}
+use Rattle.trainer.specs.declared.Trainer.{Trainer}
+use Rattle.trainer.specs.declared.Answered.{Answered}
+use Rattle.trainer.specs.Phases.{refuse, taken}
+use Rattle.trainer.specs.Calls.{blankTrainer}
+use Rattle.record.specs.Bytes.{valueFrom, numberAt}
+use Rattle.record.specs.Read.{actionAt, flagAt, settingsAt, splitCount, linkOf, leafAtPlace, payloadPlace, nodeAtPlace, statePlace, readOf}
+use Rattle.record.specs.Calls.{lengthHolds, versionHolds, bodyHolds, loadOf}
+use Rattle.record.proofs.Bytes.{below-most}
+use Rattle.record.proofs.Stands.{SettingsFits}
+use Rattle.record.proofs.RoundTrip.{TrainerFits}
+use Rattle.host_trainer.proofs.TreesFit.{plain-fits, ends-fit}
+
+-- ---- bytes
+-- every element is a byte
+abbrev pub Bytes : List ℕ → Type 0
+Bytes xs = (i : ℕ) → getD xs i 0 < 256
+
+drop-bytes : (k : ℕ) (xs : List ℕ) → Bytes xs → Bytes (drop k xs)
+drop-bytes zero xs h = h
+drop-bytes (suc k) [] h = h
+drop-bytes (suc k) (x ∷ xs) h = drop-bytes k xs (λ i. h (suc i))
+
+-- at most n bytes after a number below 256 ^ m give one below 256 ^ (m + n)
+value-below : (n m acc : ℕ) (xs : List ℕ) → Bytes xs → acc < 256 ^ m → valueFrom acc (take n xs) < 256 ^ (m + n)
+unfolding valueFrom
+value-below zero m acc xs h l = below-most m (m + 0) acc l (omega arith)
+value-below (suc n) m acc [] h l = below-most m (m + suc n) acc l (omega arith)
+value-below (suc n) m acc (x ∷ xs) h l =
+    let p : 256 ^ suc m ≡ 256 ^ m * 256 = pow-suc 256 m in
+    let b = h zero in
+    subst (λ (k : ℕ). valueFrom (acc * 256 + x) (take n xs) < 256 ^ k) (let e : suc m + n ≡ m + suc n = omega arith in e)
+    (value-below n (suc m) (acc * 256 + x) xs (λ i. h (suc i)) (omega arith))
+
+number-below : (bytes : List ℕ) (at n : ℕ) → Bytes bytes → numberAt bytes at n < 256 ^ n
+number-below bytes at n h =
+    subst (λ (k : ℕ). numberAt bytes at n < 256 ^ k) (let e : 0 + n ≡ n = omega arith in e)
+    (value-below n 0 0 (drop at bytes) (drop-bytes at bytes h) (omega arith))
+
+action-fits : (bytes : List ℕ) (at : ℕ) → Bytes bytes → ActionFits (actionAt bytes at)
+action-fits bytes at h =
+    record {
+      multiplier = ofBits-fits binary64 (numberAt bytes at 8);
+      increment = toZ-fits w32 (numberAt bytes (at + 8) 4) (record { fits = number-below bytes (at + 8) 4 h });
+      delay = ofBits-fits binary64 (numberAt bytes (at + 12) 8);
+    }
+
+pub settings-fits : (bytes : List ℕ) (at : ℕ) → Bytes bytes → SettingsFits (settingsAt bytes at)
+settings-fits bytes at h =
+    record {
+      splits = number-below bytes at 4 h;
+      rounds = number-below bytes (at + 4) 4 h;
+      multiplier = number-below bytes (at + 8) 4 h;
+      min = action-fits bytes (at + 13) h;
+      max = action-fits bytes (at + 33) h;
+      initial = action-fits bytes (at + 53) h;
+      most = action-fits bytes (at + 73) h;
+      default = action-fits bytes (at + 93) h;
+    }
+
+-- ---- a trainer that is read from bytes
+place-fits : (bytes : List ℕ) (s i : ℕ) → Bytes bytes → ActionFits (nodeAtPlace bytes s i .action)
+unfolding nodeAtPlace
+place-fits bytes s i h = go (ltb i (nodeCount s)) (leafAtPlace bytes s i)
+  where
+    go : (b c : Bool)
+        → ActionFits
+        (cond b
+        (cond c
+        (record { action = actionAt bytes (payloadPlace bytes s i); children = 0; optimized = flagAt bytes (payloadPlace bytes s i + 20) })
+        (parentWith (linkOf bytes s i)))
+        blankNode
+        .action)
+    go true true = action-fits bytes (payloadPlace bytes s i) h
+    go true false = plain-fits
+    go false c = plain-fits
+
+read-fits : (bytes : List ℕ) → Bytes bytes → TrainerFits (readOf bytes)
+read-fits bytes h =
+    let s = splitCount bytes in
+    let at = statePlace s in
+    record {
+      settings = settings-fits bytes 5 h;
+      tree =
+          record {
+            full = length-tabulate 513 (nodeAtPlace bytes s);
+            ends = ends-fit;
+            actions = λ i l.
+                subst (λ (x : Node). ActionFits (x .action)) (sym (getD-tabulate 513 i (nodeAtPlace bytes s) noNode l)) (place-fits bytes s i h);
+          };
+      stage = number-below bytes (at + 1) 4 h;
+      round = number-below bytes (at + 5) 4 h;
+      leaf = number-below bytes (at + 9) 2 h;
+      best = ofBits-fits binary64 (numberAt bytes (at + 11) 8);
+      k = number-below bytes (at + 19) 2 h;
+      kept = number-below bytes (at + 21) 2 h;
+      score = ofBits-fits binary64 (numberAt bytes (at + 23) 8);
+    }
+
+refusal : (k : ℕ) (t : Trainer) → refuse (suc k) blankTrainer ≡ taken t → ⊥
+refusal k t e = let q : suc k ≡ 0 = ap (λ (a : Answered). a .refused) e in omega arith
+
+loaded-is : (bytes : List ℕ) (t : Trainer) → loadOf bytes ≡ taken t → readOf bytes ≡ t
+unfolding loadOf
+loaded-is bytes t e = go (lengthHolds bytes) (versionHolds bytes) (bodyHolds bytes) e
+  where
+    go : (l v b : Bool)
+        → cond l (cond v (cond b (taken (readOf bytes)) (refuse 8 blankTrainer)) (refuse 7 blankTrainer)) (refuse 6 blankTrainer) ≡ taken t
+        → readOf bytes ≡ t
+    go true true true q = ap (λ (a : Answered). a .trainer) q
+    go true true false q = absurd (refusal 7 t q)
+    go true false b q = absurd (refusal 6 t q)
+    go false v b q = absurd (refusal 5 t q)
+
+pub loaded-fits : (bytes : List ℕ) (t : Trainer) → Bytes bytes → loadOf bytes ≡ taken t → TrainerFits t
+loaded-fits bytes t h e = subst TrainerFits (loaded-is bytes t e) (read-fits bytes h)

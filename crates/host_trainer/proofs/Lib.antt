@@ -1,0 +1,7 @@
+pub mod RecordWays
+pub mod QuestionWays
+pub mod LookupWays
+pub mod TreesFit
+pub mod BytesFit
+pub mod StepsFit
+pub mod Runs

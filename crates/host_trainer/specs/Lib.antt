@@ -1,0 +1,5 @@
+pub mod Records
+pub mod Questions
+pub mod Lookups
+pub mod Parts
+pub mod Runs

@@ -1,0 +1,75 @@
+/* Knellstone for hosts: a Remy trainer and sender, kept by the host as bytes.
+ *
+ * Every function is total on any bytes. It answers a size, or KNELLSTONE_REFUSED plus the number of a
+ * refusal; a refused call changes no byte of what it was lent. A slice is a pointer and a length. The
+ * buffers of one call must not overlap. Numbers are big-endian; a float is its 8 bytes of bits.
+ *
+ * Link target/staticlib/libhost.a, which `rt staticlib host` proves and writes. */
+#ifndef KNELLSTONE_H
+#define KNELLSTONE_H
+
+#include <stddef.h>
+#include <stdint.h>
+
+#ifdef __cplusplus
+extern "C" {
+#endif
+
+#define KNELLSTONE_REFUSED UINT64_C(0x8000000000000000)
+
+/* Sizes in bytes. */
+#define KNELLSTONE_SETTINGS 113     /* u32 rule_splits, rounds, multiplier; drill byte; five actions */
+#define KNELLSTONE_ACTION 20        /* multiplier 8, increment 4, delay 8 */
+#define KNELLSTONE_POINT 24         /* ack, send, ratio */
+#define KNELLSTONE_FOUND 21         /* 1 and an action, or zeros */
+#define KNELLSTONE_QUESTION 31      /* kind (1 counts, 2 score, 3 done), u16 leaf, action, progress */
+#define KNELLSTONE_RECORD_MOST 9708 /* a record of 64 splits */
+#define KNELLSTONE_MODE 9           /* 0 off, 1 always, 2 lo..=hi; u32 lo, u32 hi */
+#define KNELLSTONE_SENDER 108       /* docs/HOSTS.md has its layout */
+#define KNELLSTONE_EVENT 22         /* 0 ack, 1 send, 2 tick; sent 8, received 8; draw flag, u32 draw */
+#define KNELLSTONE_REPLY 5          /* refusal's number or 0, u32 window */
+
+/* The number of the refusal, or 0. */
+static inline uint32_t knellstone_refusal(uint64_t answer) {
+    return answer >= KNELLSTONE_REFUSED ? (uint32_t)(answer - KNELLSTONE_REFUSED) : 0;
+}
+
+/* Starts a trainer by its settings and writes its record. 2, 9 */
+uint64_t knellstone_start(const uint8_t *settings, size_t settings_len, uint8_t *record, size_t record_len);
+
+/* What the trainer of a record asks. 6, 7, 8, 9 */
+uint64_t knellstone_question(const uint8_t *record, size_t record_len, uint8_t *out, size_t out_len);
+
+/* Answers with counts, 8 bytes each, one per node, and writes the next record. 6, 7, 8, 21, 4, 20, 9 */
+uint64_t knellstone_answer_counts(const uint8_t *record, size_t record_len, const uint8_t *counts, size_t counts_len,
+                                  uint8_t *next, size_t next_len);
+
+/* Answers with a score, by its bits, and writes the next record. 6, 7, 8, 21, 9 */
+uint64_t knellstone_answer_score(const uint8_t *record, size_t record_len, uint64_t score_bits, uint8_t *next,
+                                 size_t next_len);
+
+/* Looks many points up in the record's tree: KNELLSTONE_FOUND bytes each. 6, 7, 8, 6, 9 */
+uint64_t knellstone_lookup(const uint8_t *record, size_t record_len, const uint8_t *points, size_t points_len,
+                           uint8_t *out, size_t out_len);
+
+/* The same with one leaf's action replaced. 6, 7, 8, 3, 6, 1, 6, 9 */
+uint64_t knellstone_lookup_replaced(const uint8_t *record, size_t record_len, uint16_t leaf, const uint8_t *action,
+                                    size_t action_len, const uint8_t *points, size_t points_len, uint8_t *out,
+                                    size_t out_len);
+
+/* A fresh sender by its repeat mode. 2, 9 */
+uint64_t knellstone_sender(const uint8_t *mode, size_t mode_len, uint8_t *sender, size_t sender_len);
+
+/* Acks, sends and ticks in turn over the record's tree: KNELLSTONE_REPLY bytes each, and the sender after
+ * them. An event that is refused changes nothing and has its number in its reply. 6, 7, 8, 6, 9 */
+uint64_t knellstone_events(const uint8_t *record, size_t record_len, uint8_t *sender, size_t sender_len,
+                           const uint8_t *events, size_t events_len, uint8_t *replies, size_t replies_len);
+
+/* The panel's lines of a record followed by its counts, 8 bytes each. 6, 7, 8, 4, 9 */
+uint64_t knellstone_panel(const uint8_t *input, size_t input_len, uint8_t *out, size_t out_len);
+
+#ifdef __cplusplus
+}
+#endif
+
+#endif

@@ -1,0 +1,387 @@
+//! A Remy trainer and sender whose every promise is proved, for hosts in Rust.
+//!
+//! A [`Trainer`] asks ([`Trainer::question`]) and the host answers, with counts or with a score, until the
+//! question is [`Question::Done`]. It is kept as the bytes of its record, so saving it is writing
+//! [`Trainer::record`], and loading is [`Trainer::load`]. A [`Sender`] paces itself over a trainer's tree.
+//! What is excluded is refused by its number, a [`Refusal`], and then nothing has changed.
+//!
+//! ```
+//! use knellstone::{Question, Settings, Trainer};
+//! let trainer = Trainer::start(&Settings::default()).unwrap();
+//! assert!(matches!(trainer.question(), Question::Counts { .. }));
+//! assert_eq!(trainer.record().len(), 172);
+//! assert_eq!(trainer.panel(&[5]).unwrap(), "leaves 1 splits 0\n0 1000\n");
+//! ```
+
+mod raw;
+
+use std::fmt;
+
+/// Why a call was refused: the number that the promises give it.
+#[derive(Clone, Copy, Debug, PartialEq, Eq)]
+pub struct Refusal(pub u32);
+
+impl fmt::Display for Refusal {
+    fn fmt(&self, f: &mut fmt::Formatter<'_>) -> fmt::Result {
+        let words = match self.0 {
+            1 => "a moment that is not admitted, or an action that is not valid",
+            2 => "settings or a repeat mode out of range",
+            3 => "no such leaf",
+            4 => "counts that are not one per node, above 0 at a parent, or over 2^53 in all",
+            5 => "a draw that is due and absent, or out of range",
+            6 => "bytes of another length than they should have",
+            7 => "a record of an unknown version",
+            8 => "a record with a field that no trainer holds",
+            9 => "a buffer that is too short",
+            10 => "a tree or trainer that was not grown",
+            20 => "a 65th split",
+            21 => "another kind of answer than was asked for, or training is done",
+            22 => "no rule for this ack",
+            23 => "a total that is full",
+            _ => "an unknown refusal",
+        };
+        write!(f, "refused {}: {}", self.0, words)
+    }
+}
+
+impl std::error::Error for Refusal {}
+
+/// What a sender does in a leaf: multiply its window, add to it, and wait between sends.
+#[derive(Clone, Copy, Debug, PartialEq)]
+pub struct Action {
+    pub window_multiplier: f64,
+    pub window_increment: i32,
+    pub intersend_delay: f64,
+}
+
+impl Action {
+    pub fn new(window_multiplier: f64, window_increment: i32, intersend_delay: f64) -> Self {
+        Action { window_multiplier, window_increment, intersend_delay }
+    }
+
+    pub fn to_bytes(self) -> [u8; 20] {
+        let mut b = [0; 20];
+        b[..8].copy_from_slice(&self.window_multiplier.to_bits().to_be_bytes());
+        b[8..12].copy_from_slice(&self.window_increment.to_be_bytes());
+        b[12..].copy_from_slice(&self.intersend_delay.to_bits().to_be_bytes());
+        b
+    }
+
+    pub fn from_bytes(b: &[u8; 20]) -> Self {
+        Action {
+            window_multiplier: float(&b[..8]),
+            window_increment: i32::from_be_bytes(b[8..12].try_into().unwrap()),
+            intersend_delay: float(&b[12..]),
+        }
+    }
+}
+
+/// A point of a sender's memory: two running averages of gaps, in seconds, and a ratio of round trips.
+#[derive(Clone, Copy, Debug, PartialEq)]
+pub struct Point {
+    pub ack_ewma: f64,
+    pub send_ewma: f64,
+    pub rtt_ratio: f64,
+}
+
+impl Point {
+    pub fn to_bytes(self) -> [u8; 24] {
+        let mut b = [0; 24];
+        for (i, x) in [self.ack_ewma, self.send_ewma, self.rtt_ratio].into_iter().enumerate() {
+            b[8 * i..8 * i + 8].copy_from_slice(&x.to_bits().to_be_bytes());
+        }
+        b
+    }
+}
+
+/// How a trainer searches.
+#[derive(Clone, Copy, Debug, PartialEq)]
+pub struct Settings {
+    pub rule_splits: u32,
+    pub rounds: u32,
+    pub multiplier: u32,
+    pub drill: bool,
+    pub min: Action,
+    pub max: Action,
+    pub initial_change: Action,
+    pub max_change: Action,
+    pub default: Action,
+}
+
+impl Default for Settings {
+    /// Those of FlowForge's `RemyTrainer::default`.
+    fn default() -> Self {
+        let action = |multiplier, increment, milliseconds: f64| Action::new(multiplier, increment, milliseconds / 1000.0);
+        Settings {
+            rule_splits: 12,
+            rounds: 2,
+            multiplier: 4,
+            drill: true,
+            min: action(0.0, 0, 0.25),
+            max: action(1.0, 256, 3.0),
+            initial_change: action(0.01, 1, 0.05),
+            max_change: action(0.5, 32, 1.0),
+            default: action(1.0, 1, 3.0),
+        }
+    }
+}
+
+impl Settings {
+    pub fn to_bytes(&self) -> [u8; 113] {
+        let mut b = [0; 113];
+        b[..4].copy_from_slice(&self.rule_splits.to_be_bytes());
+        b[4..8].copy_from_slice(&self.rounds.to_be_bytes());
+        b[8..12].copy_from_slice(&self.multiplier.to_be_bytes());
+        b[12] = self.drill.into();
+        for (i, a) in [self.min, self.max, self.initial_change, self.max_change, self.default].into_iter().enumerate() {
+            b[13 + 20 * i..33 + 20 * i].copy_from_slice(&a.to_bytes());
+        }
+        b
+    }
+}
+
+/// What a trainer asks for. Progress goes from 0 to 1.
+#[derive(Clone, Copy, Debug, PartialEq)]
+pub enum Question {
+    /// How often each node was reached, 0 for parents.
+    Counts { progress: f64 },
+    /// The score of the tree with this leaf's action replaced by this one.
+    Score { leaf: u16, action: Action, progress: f64 },
+    Done { progress: f64 },
+}
+
+/// A trainer, kept as the bytes of its record.
+#[derive(Clone, Debug, PartialEq, Eq)]
+pub struct Trainer {
+    record: Vec<u8>,
+}
+
+const RECORD_MOST: usize = 9708;
+
+impl Trainer {
+    pub fn start(settings: &Settings) -> Result<Self, Refusal> {
+        Self::start_from(&settings.to_bytes())
+    }
+
+    /// From the bytes of settings, as a record has them.
+    pub fn start_from(settings: &[u8]) -> Result<Self, Refusal> {
+        written(RECORD_MOST, |out| raw::start(settings, out)).map(|record| Trainer { record })
+    }
+
+    /// The trainer whose record these bytes are.
+    pub fn load(record: &[u8]) -> Result<Self, Refusal> {
+        written(31, |out| raw::question(record, out)).map(|_| Trainer { record: record.to_vec() })
+    }
+
+    pub fn record(&self) -> &[u8] {
+        &self.record
+    }
+
+    pub fn question(&self) -> Question {
+        let b = written(31, |out| raw::question(&self.record, out)).expect("a trainer's record is accepted");
+        let progress = float(&b[23..31]);
+        match b[0] {
+            1 => Question::Counts { progress },
+            2 => Question::Score {
+                leaf: u16::from_be_bytes([b[1], b[2]]),
+                action: Action::from_bytes(b[3..23].try_into().unwrap()),
+                progress,
+            },
+            _ => Question::Done { progress },
+        }
+    }
+
+    /// After a refusal the trainer is as it was.
+    pub fn answer_counts(&mut self, counts: &[u64]) -> Result<(), Refusal> {
+        let counts = counts_bytes(counts);
+        self.record = written(RECORD_MOST, |out| raw::answer_counts(&self.record, &counts, out))?;
+        Ok(())
+    }
+
+    pub fn answer_score(&mut self, score: f64) -> Result<(), Refusal> {
+        self.record = written(RECORD_MOST, |out| raw::answer_score(&self.record, score.to_bits(), out))?;
+        Ok(())
+    }
+
+    /// The action of the leaf that holds each point, or none outside the root box.
+    pub fn lookup(&self, points: &[Point]) -> Vec<Option<Action>> {
+        let points = points_bytes(points);
+        let out = written(points.len() / 24 * 21, |out| raw::lookup(&self.record, &points, out));
+        found(&out.expect("a trainer's record is accepted"))
+    }
+
+    /// The same with one leaf's action replaced.
+    pub fn lookup_replaced(&self, leaf: u16, action: Action, points: &[Point]) -> Result<Vec<Option<Action>>, Refusal> {
+        let points = points_bytes(points);
+        let out = written(points.len() / 24 * 21, |out| {
+            raw::lookup_replaced(&self.record, leaf, &action.to_bytes(), &points, out)
+        })?;
+        Ok(found(&out))
+    }
+
+    /// How many nodes its tree has.
+    pub fn nodes(&self) -> usize {
+        1 + 8 * usize::from(u16::from_be_bytes([self.record[118], self.record[119]]))
+    }
+
+    /// How many of the points each node's leaf holds, 0 for parents: what a question for counts wants.
+    /// A point is in the leaf whose replaced action it finds.
+    pub fn tally(&self, points: &[Point]) -> Vec<u64> {
+        let finds = |leaf, marker| self.lookup_replaced(leaf, marker, points).unwrap_or_default();
+        (0..self.nodes() as u16)
+            .map(|leaf| {
+                let one = finds(leaf, Action::new(0.0, 0, 0.0));
+                let other = finds(leaf, Action::new(0.0, 1, 0.0));
+                one.iter().zip(&other).filter(|(a, b)| a != b).count() as u64
+            })
+            .collect()
+    }
+
+    /// The panel's lines: the share of each leaf, in thousandths.
+    pub fn panel(&self, counts: &[u64]) -> Result<String, Refusal> {
+        let mut input = self.record.clone();
+        input.extend(counts_bytes(counts));
+        let out = written(8192, |out| raw::panel(&input, out))?;
+        Ok(String::from_utf8(out).expect("the panel's lines are plain text"))
+    }
+}
+
+/// How often an action that was looked up serves again.
+#[derive(Clone, Copy, Debug, PartialEq, Eq)]
+pub enum RepeatMode {
+    Off,
+    Always(u32),
+    /// A draw from lo to hi is handed in with each ack that looks up.
+    Between(u32, u32),
+}
+
+impl RepeatMode {
+    pub fn to_bytes(self) -> [u8; 9] {
+        let (mode, lo, hi) = match self {
+            RepeatMode::Off => (0, 0, 0),
+            RepeatMode::Always(n) => (1, n, 0),
+            RepeatMode::Between(lo, hi) => (2, lo, hi),
+        };
+        let mut b = [0; 9];
+        b[0] = mode;
+        b[1..5].copy_from_slice(&u32::to_be_bytes(lo));
+        b[5..].copy_from_slice(&u32::to_be_bytes(hi));
+        b
+    }
+}
+
+/// What happens to a sender, at moments in seconds.
+#[derive(Clone, Copy, Debug, PartialEq)]
+pub enum Event {
+    Ack { sent: f64, received: f64, draw: Option<u32> },
+    Send { at: f64 },
+    Tick,
+}
+
+impl Event {
+    pub fn to_bytes(self) -> [u8; 22] {
+        let mut b = [0; 22];
+        match self {
+            Event::Ack { sent, received, draw } => {
+                b[1..9].copy_from_slice(&sent.to_bits().to_be_bytes());
+                b[9..17].copy_from_slice(&received.to_bits().to_be_bytes());
+                b[17] = draw.is_some().into();
+                b[18..].copy_from_slice(&draw.unwrap_or(0).to_be_bytes());
+            }
+            Event::Send { at } => {
+                b[0] = 1;
+                b[1..9].copy_from_slice(&at.to_bits().to_be_bytes());
+            }
+            Event::Tick => b[0] = 2,
+        }
+        b
+    }
+}
+
+/// A sender, in the 108 bytes that docs/HOSTS.md lays out.
+#[derive(Clone, Debug, PartialEq, Eq)]
+pub struct Sender {
+    bytes: [u8; 108],
+}
+
+impl Sender {
+    pub fn new(mode: RepeatMode) -> Result<Self, Refusal> {
+        Self::new_from(&mode.to_bytes())
+    }
+
+    pub fn new_from(mode: &[u8]) -> Result<Self, Refusal> {
+        let mut bytes = [0; 108];
+        size(raw::sender(mode, &mut bytes))?;
+        Ok(Sender { bytes })
+    }
+
+    pub fn from_bytes(bytes: [u8; 108]) -> Self {
+        Sender { bytes }
+    }
+
+    pub fn bytes(&self) -> &[u8; 108] {
+        &self.bytes
+    }
+
+    /// The window that it holds.
+    pub fn window(&self) -> u32 {
+        u32::from_be_bytes(self.bytes[96..100].try_into().unwrap())
+    }
+
+    /// How long it waits between sends.
+    pub fn wait(&self) -> f64 {
+        float(&self.bytes[100..])
+    }
+
+    /// Each event in turn over the trainer's tree: the window handed back, or the refusal, after which the
+    /// sender is as it was before that event.
+    pub fn run(&mut self, trainer: &Trainer, events: &[Event]) -> Vec<Result<u32, Refusal>> {
+        let list: Vec<u8> = events.iter().flat_map(|e| e.to_bytes()).collect();
+        let sender = &mut self.bytes;
+        let out = written(5 * events.len(), |out| raw::events(&trainer.record, sender, &list, out));
+        let out = out.expect("a trainer's record is accepted");
+        out.chunks(5)
+            .map(|r| match r[0] {
+                0 => Ok(u32::from_be_bytes(r[1..].try_into().unwrap())),
+                n => Err(Refusal(n.into())),
+            })
+            .collect()
+    }
+
+    pub fn ack(&mut self, trainer: &Trainer, sent: f64, received: f64, draw: Option<u32>) -> Result<u32, Refusal> {
+        self.run(trainer, &[Event::Ack { sent, received, draw }])[0]
+    }
+}
+
+fn float(bytes: &[u8]) -> f64 {
+    f64::from_bits(u64::from_be_bytes(bytes.try_into().unwrap()))
+}
+
+fn counts_bytes(counts: &[u64]) -> Vec<u8> {
+    counts.iter().flat_map(|n| n.to_be_bytes()).collect()
+}
+
+fn points_bytes(points: &[Point]) -> Vec<u8> {
+    points.iter().flat_map(|p| p.to_bytes()).collect()
+}
+
+fn found(bytes: &[u8]) -> Vec<Option<Action>> {
+    bytes.chunks(21).map(|b| (b[0] == 1).then(|| Action::from_bytes(b[1..].try_into().unwrap()))).collect()
+}
+
+fn size(answer: u64) -> Result<usize, Refusal> {
+    const REFUSED: u64 = 1 << 63;
+    if answer < REFUSED {
+        Ok(answer as usize)
+    } else {
+        Err(Refusal((answer - REFUSED) as u32))
+    }
+}
+
+/// The bytes that a call writes into a buffer with this room.
+fn written(room: usize, call: impl FnOnce(&mut [u8]) -> u64) -> Result<Vec<u8>, Refusal> {
+    let mut out = vec![0; room];
+    let n = size(call(&mut out))?;
+    out.truncate(n);
+    Ok(out)
+}

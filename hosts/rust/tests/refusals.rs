@@ -1,0 +1,95 @@
+//! What is excluded is refused by its number, and then nothing has changed.
+
+use knellstone::{Action, Event, Point, Refusal, RepeatMode, Sender, Settings, Trainer};
+
+fn fresh() -> Trainer {
+    Trainer::start(&Settings::default()).unwrap()
+}
+
+#[test]
+fn settings() {
+    let bytes = Settings::default().to_bytes();
+    assert_eq!(Trainer::start_from(&bytes[..112]), Err(Refusal(2)));
+    assert_eq!(Trainer::start_from(&[]), Err(Refusal(2)));
+    let mut drill = bytes;
+    drill[12] = 2;
+    assert_eq!(Trainer::start_from(&drill), Err(Refusal(2)));
+    assert_eq!(Trainer::start(&Settings { rule_splits: 65, ..Settings::default() }), Err(Refusal(2)));
+    assert_eq!(Sender::new(RepeatMode::Between(2, 1)), Err(Refusal(2)));
+    assert_eq!(Sender::new_from(&[3, 0, 0, 0, 0, 0, 0, 0, 0]), Err(Refusal(2)));
+    assert_eq!(Sender::new_from(&[0; 8]), Err(Refusal(2)));
+}
+
+#[test]
+fn answers() {
+    let mut trainer = fresh();
+    let before = trainer.clone();
+    assert_eq!(trainer.answer_score(1.0), Err(Refusal(21)));
+    assert_eq!(trainer.answer_counts(&[]), Err(Refusal(4)));
+    assert_eq!(trainer.answer_counts(&[1, 2]), Err(Refusal(4)));
+    assert_eq!(trainer.answer_counts(&[(1 << 53) + 1]), Err(Refusal(4)));
+    assert_eq!(trainer.answer_counts(&vec![0; 100_000]), Err(Refusal(4)));
+    assert_eq!(trainer, before);
+    assert_eq!(trainer.answer_counts(&[1 << 53]), Ok(()));
+    assert_ne!(trainer, before);
+}
+
+#[test]
+fn records() {
+    let trainer = fresh();
+    assert_eq!(Trainer::load(&[]), Err(Refusal(6)));
+    assert_eq!(Trainer::load(&trainer.record()[..171]), Err(Refusal(6)));
+    let mut version = trainer.record().to_vec();
+    version[4] = 2;
+    assert_eq!(Trainer::load(&version), Err(Refusal(7)));
+    let mut phase = trainer.record().to_vec();
+    phase[141] = 9;
+    assert_eq!(Trainer::load(&phase), Err(Refusal(8)));
+    assert_eq!(Trainer::load(trainer.record()), Ok(trainer));
+}
+
+#[test]
+fn lookups() {
+    let trainer = fresh();
+    let inside = Point { ack_ewma: 1.0, send_ewma: 1.0, rtt_ratio: 1.0 };
+    let outside = Point { rtt_ratio: 1000.0, ..inside };
+    let usual = Settings::default().default;
+    assert_eq!(trainer.lookup(&[inside, outside, Point { ack_ewma: f64::NAN, ..inside }]), [Some(usual), None, None]);
+    assert_eq!(trainer.lookup(&[]), []);
+    let other = Action::new(0.5, 7, 0.25);
+    assert_eq!(trainer.lookup_replaced(0, other, &[inside, outside]), Ok(vec![Some(other), None]));
+    assert_eq!(trainer.lookup_replaced(1, other, &[inside]), Err(Refusal(3)));
+    assert_eq!(trainer.lookup_replaced(0, Action::new(f64::NAN, 0, 0.0), &[inside]), Err(Refusal(1)));
+    assert_eq!(trainer.lookup_replaced(1, Action::new(f64::NAN, 0, 0.0), &[inside]), Err(Refusal(3)));
+    assert_eq!(trainer.tally(&[inside, outside, inside]), [2]);
+}
+
+#[test]
+fn events() {
+    let trainer = fresh();
+    let mut sender = Sender::new(RepeatMode::Off).unwrap();
+    assert_eq!((sender.window(), sender.wait()), (1, 0.0));
+    let before = sender.clone();
+    let refused = [
+        Event::Ack { sent: 1.0, received: 1.0, draw: None },
+        Event::Ack { sent: f64::NAN, received: 1.0, draw: None },
+        Event::Send { at: -1.0 },
+    ];
+    assert_eq!(sender.run(&trainer, &refused), [Err(Refusal(22)), Err(Refusal(1)), Err(Refusal(1))]);
+    assert_eq!(sender, before);
+    assert_eq!(sender.ack(&trainer, 0.0, 0.05, None), Ok(2));
+    assert_eq!(sender.run(&trainer, &[Event::Send { at: 0.1 }, Event::Tick]), [Ok(0), Ok(2)]);
+    assert_eq!(sender.run(&trainer, &[]), []);
+    let mut drawn = Sender::new(RepeatMode::Between(1, 2)).unwrap();
+    assert_eq!(drawn.ack(&trainer, 0.0, 0.05, None), Err(Refusal(5)));
+    assert_eq!(drawn.ack(&trainer, 0.0, 0.05, Some(0)), Err(Refusal(5)));
+    assert_eq!(drawn.ack(&trainer, 0.0, 0.05, Some(2)), Ok(2));
+}
+
+#[test]
+fn panel() {
+    assert_eq!(fresh().panel(&[5]).unwrap(), "leaves 1 splits 0\n0 1000\n");
+    assert_eq!(fresh().panel(&[0]).unwrap(), "leaves 1 splits 0\n0 0\n");
+    assert_eq!(fresh().panel(&[]), Err(Refusal(4)));
+    assert_eq!(fresh().panel(&[1, 1]), Err(Refusal(4)));
+}
