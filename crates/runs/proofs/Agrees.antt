@@ -1,0 +1,207 @@
+-- Demand 3 as words: for every script, what the calls answer is what the plain trainer and the plain sender answer. Assumes nothing.
+use mathlib.Core.Path.{_≡_, refl, sym, ap, _∙_}
+use mathlib.Core.Bool.{Bool, true, false, cond}
+use mathlib.Core.List.{List, [], _∷_, _++_}
+use Prim.Native.Nat.{ℕ, _≤_}
+use native.Mathlib.Omega.{arith}
+use borrow.Author.Tests.{le-leb}
+use lib.ListN.{length, take, drop, replicate, length-replicate}
+use lib.Seq.{take-at}
+use lib.Ieee.{Float}
+use Rattle.remy.specs.declared.point.Point.{Point}
+use Rattle.rule_tree.specs.declared.RuleTree.{RuleTree}
+use Rattle.rule_tree.specs.Grown.{grownOf}
+use Rattle.rule_tree.specs.Calls.{foundIn, lookupOf}
+use Rattle.trainer.specs.declared.settings.Settings.{Settings}
+use Rattle.trainer.specs.declared.Trainer.{Trainer}
+use Rattle.trainer.specs.Settings.{settingsHold}
+use Rattle.trainer.specs.Calls.{startOf, questionOf}
+use Rattle.record.specs.declared.Saved.the-variants.{Size, Refused}
+use Rattle.record.specs.Calls.{saveOf, bufferAfter}
+use Rattle.sender.specs.declared.Draw.{Draw}
+use Rattle.sender.specs.declared.RepeatMode.{RepeatMode}
+use Rattle.sender.specs.declared.Sender.{Sender}
+use Rattle.sender.specs.Sender.{modeHolds, freshSender}
+use Rattle.promise.specs.PlainTree.{Tree, Choice, nobody, leaf}
+use Rattle.promise.specs.PlainTrainer.{State, Call, Asked, wantsCounts, wantsScore, finished, recordBytes, step, start, question}
+use Rattle.promise.specs.PlainSender as sender
+use Rattle.promise.specs.PlainSender.{PlainSender, SenderCall, leafAt, react}
+use Rattle.promise.specs.Values.{Every, FitSettings}
+use Rattle.promise.specs.Demand3.{Step, stepOf, shownAs}
+use Rattle.promise.specs.SenderRuns as runs
+use Rattle.promise.specs.SenderRuns.{SenderStep, senderStep, plainStart}
+use Rattle.promise.proofs.Embed.{embedTree, ValidTree}
+use Rattle.promise.proofs.States.{embed, ValidState}
+use Rattle.promise.proofs.Accepted.{tree-of}
+use Rattle.promise.proofs.Begins.{start-valid}
+use Rattle.promise.proofs.Questions.{question-embeds}
+use Rattle.promise.proofs.StepsKeep.{step-valid}
+use Rattle.promise.proofs.Fitting.{FitState, step-fits, start-fits}
+use Rattle.promise.proofs.Reload.{save-embeds, saved-embeds, record-length}
+use Rattle.promise.proofs.Runs.{step-embeds, starts-alike}
+use Rattle.promise.proofs.TreeGrown.{grown-embeds}
+use Rattle.promise.proofs.SenderLeaf.{lookedAt, found-embeds}
+use Rattle.promise.proofs.SenderRender.{render, start-renders}
+use Rattle.promise.proofs.SenderRun.{embedCall, AckOver, call-step}
+use Rattle.runs.specs.Script.{settings, mode, Item, train, ack, send, tick, lookup, callsOf}
+use Rattle.runs.specs.Compared.{askedWords, outcomeWords, reactionWords, foundWords, comparedFrom, comparedWith, comparedOf}
+use Rattle.runs.specs.Ran.{questionWords, stepWords, senderWords, lookedWords, endWords, ranFrom, ranWith, ranOf}
+use Rattle.runs.proofs.WordsFit.{settings-fit, FitItem, calls-fit}
+
+-- ---- the question
+asked-same : (a : Asked) → questionWords (shownAs a) ≡ askedWords a
+unfolding questionWords shownAs askedWords
+asked-same (wantsCounts x) = refl
+asked-same (wantsScore i a x) = refl
+asked-same (finished x) = refl
+
+question-agrees : (st : State) → ValidState st → questionWords (questionOf (embed st)) ≡ askedWords (question st)
+question-agrees st v = ap questionWords (question-embeds st v) ∙ asked-same (question st)
+
+-- ---- a lookup
+found-same : (t : Tree) (c : Choice) → lookedWords (lookedAt t c) ≡ foundWords t c
+unfolding lookedWords lookedAt foundWords
+found-same t nobody = refl
+found-same t (leaf i) = refl
+
+grown-lookup : (t : RuleTree) (p : Point) → grownOf t ≡ true → lookupOf t p ≡ foundIn t p
+unfolding lookupOf
+grown-lookup t p g = rw g
+
+tree-embeds : (st : State) → embed st .tree ≡ embedTree (st .tree)
+tree-embeds st = tree-of (st .settings) (embedTree (st .tree)) (st .stage) (st .round) (st .phase)
+
+lookup-agrees : (st : State) → ValidState st → (p : Point) → lookedWords (lookupOf (embed st .tree) p) ≡ foundWords (st .tree) (leafAt (st .tree) p)
+lookup-agrees st v p =
+    ap (λ (t : RuleTree). lookedWords (lookupOf t p)) (tree-embeds st)
+    ∙ ap lookedWords (grown-lookup (embedTree (st .tree)) p (grown-embeds (st .tree) (v .tree)) ∙ found-embeds (st .tree) (v .tree) p)
+    ∙ found-same (st .tree) (leafAt (st .tree) p)
+
+-- ---- the record at the end: 172 + 149 s bytes for at most 64 splits, which the buffer holds
+abbrev buffer : List ℕ
+buffer = replicate 16388 0
+
+end-size : (t : Trainer) (n : ℕ) → endWords t (Size n) ≡ n ∷ take n (bufferAfter t buffer (Size n))
+unfolding endWords
+end-size t n = refl
+
+module _ (st : State) (v : ValidState st) (f : FitState st) where
+  record-small : length (recordBytes st) ≤ length buffer
+  record-small = omega (arith, record-length st v f, v .tree .few, length-replicate {A = ℕ} 16388 0)
+
+  saves-whole : saveOf (embed st) buffer ≡ Size (length (recordBytes st))
+  saves-whole =
+      save-embeds st v buffer
+      ∙ ap (λ (b : Bool). cond b (Size (length (recordBytes st))) (Refused 9)) (le-leb (length (recordBytes st)) (length buffer) record-small)
+
+  end-agrees : endWords (embed st) (saveOf (embed st) buffer) ≡ length (recordBytes st) ∷ recordBytes st
+  end-agrees =
+      let n = length (recordBytes st) in
+      ap (endWords (embed st)) saves-whole
+      ∙ end-size (embed st) n
+      ∙ ap (λ (bs : List ℕ). n ∷ take n bs) (saved-embeds st v buffer)
+      ∙ ap (λ (bs : List ℕ). n ∷ bs) (take-at (recordBytes st) (drop n buffer) n refl)
+
+-- ---- one call, and then the rest
+module _ (is : List Item) (st : State) (s : PlainSender) (v : ValidState st) (f : FitState st) where
+  train-agrees :
+      (c : Call) → ranFrom (embed (step st c .state)) (render s) is ≡ comparedFrom (step st c .state) s is
+      → stepWords (stepOf (embed st) c) ++ ranFrom (stepOf (embed st) c .trainer) (render s) is
+      ≡ outcomeWords (step st c) ++ comparedFrom (step st c .state) s is
+  train-agrees c e =
+      let o = step st c in
+      ap (λ (x : Step). stepWords x ++ ranFrom (x .trainer) (render s) is) (step-embeds st v f c)
+      ∙ ap (λ (ws : List ℕ). (o .refused ∷ (length (o .saved) ∷ (o .saved ++ ws))) ++ ranFrom (embed (o .state)) (render s) is)
+      (question-agrees (o .state) (step-valid st v c))
+      ∙ ap (λ (ws : List ℕ). outcomeWords o ++ ws) e
+
+  sender-agrees :
+      (c : SenderCall) → AckOver ValidTree c → ranFrom (embed st) (render (react s c .sender)) is ≡ comparedFrom st (react s c .sender) is
+      → senderWords (senderStep (render s) (embedCall c)) ++ ranFrom (embed st) (senderStep (render s) (embedCall c) .sender) is
+      ≡ reactionWords (react s c) ++ comparedFrom st (react s c .sender) is
+  sender-agrees c a e =
+      ap (λ (x : SenderStep). senderWords x ++ ranFrom (embed st) (x .sender) is) (call-step s c a)
+      ∙ ap (λ (ws : List ℕ). reactionWords (react s c) ++ ws) e
+
+  ack-agrees :
+      (sent received : Float) (draw : Draw)
+      → let c = sender.ack (st .tree) sent received draw in
+      let o = senderStep (render s) (runs.ack (embed st .tree) sent received draw) in
+      ranFrom (embed st) (render (react s c .sender)) is ≡ comparedFrom st (react s c .sender) is
+      → senderWords o ++ ranFrom (embed st) (o .sender) is ≡ reactionWords (react s c) ++ comparedFrom st (react s c .sender) is
+  unfolding embedCall
+  ack-agrees sent received draw e =
+      ap
+      (λ (t : RuleTree).
+      let o = senderStep (render s) (runs.ack t sent received draw) in senderWords o ++ ranFrom (embed st) (o .sender) is)
+      (tree-embeds st)
+      ∙ sender-agrees (sender.ack (st .tree) sent received draw) (v .tree) e
+
+  send-agrees :
+      (at : Float)
+      → let o = senderStep (render s) (runs.send at) in
+      ranFrom (embed st) (render (react s (sender.send at) .sender)) is ≡ comparedFrom st (react s (sender.send at) .sender) is
+      → senderWords o ++ ranFrom (embed st) (o .sender) is
+      ≡ reactionWords (react s (sender.send at)) ++ comparedFrom st (react s (sender.send at) .sender) is
+  unfolding embedCall
+  send-agrees at e = sender-agrees (sender.send at) tt e
+
+  tick-agrees :
+      let o = senderStep (render s) runs.tick in
+      ranFrom (embed st) (render (react s sender.tick .sender)) is ≡ comparedFrom st (react s sender.tick .sender) is
+      → senderWords o ++ ranFrom (embed st) (o .sender) is
+      ≡ reactionWords (react s sender.tick) ++ comparedFrom st (react s sender.tick .sender) is
+  unfolding embedCall
+  tick-agrees e = sender-agrees sender.tick tt e
+
+  lookup-then :
+      (p : Point) → ranFrom (embed st) (render s) is ≡ comparedFrom st s is
+      → lookedWords (lookupOf (embed st .tree) p) ++ ranFrom (embed st) (render s) is
+      ≡ foundWords (st .tree) (leafAt (st .tree) p) ++ comparedFrom st s is
+  lookup-then p e = rw (lookup-agrees st v p, e)
+
+-- ---- every list of calls
+from-agrees :
+    (is : List Item) (st : State) (s : PlainSender) → ValidState st → FitState st → Every FitItem is
+    → ranFrom (embed st) (render s) is ≡ comparedFrom st s is
+unfolding ranFrom comparedFrom
+from-agrees [] st s v f h = end-agrees st v f
+from-agrees (train c ∷ is) st s v f h =
+    train-agrees is st s v f c (from-agrees is (step st c .state) s (step-valid st v c) (step-fits st f c (h .0)) (h .1))
+from-agrees (ack sent received draw ∷ is) st s v f h =
+    ack-agrees is st s v f sent received draw (from-agrees is st (react s (sender.ack (st .tree) sent received draw) .sender) v f (h .1))
+from-agrees (send at ∷ is) st s v f h = send-agrees is st s v f at (from-agrees is st (react s (sender.send at) .sender) v f (h .1))
+from-agrees (tick ∷ is) st s v f h = tick-agrees is st s v f (from-agrees is st (react s sender.tick .sender) v f (h .1))
+from-agrees (lookup p ∷ is) st s v f h = lookup-then is st s v f p (from-agrees is st s v f (h .1))
+
+-- ---- from the start on
+start-agrees :
+    (s : Settings) (m : RepeatMode) (is : List Item) → settingsHold s ≡ true → FitSettings s → Every FitItem is
+    → questionWords (questionOf (startOf s .trainer)) ++ ranFrom (startOf s .trainer) (freshSender m) is
+    ≡ askedWords (question (start s)) ++ comparedFrom (start s) (plainStart (freshSender m)) is
+start-agrees s m is k f h =
+    ap (λ (t : Trainer). questionWords (questionOf t) ++ ranFrom t (freshSender m) is) (starts-alike s k)
+    ∙ ap (λ (ws : List ℕ). ws ++ ranFrom (embed (start s)) (freshSender m) is) (question-agrees (start s) (start-valid s k))
+    ∙ ap (λ (x : Sender). askedWords (question (start s)) ++ ranFrom (embed (start s)) x is) (sym (start-renders (freshSender m)))
+    ∙ ap (λ (ws : List ℕ). askedWords (question (start s)) ++ ws)
+    (from-agrees is (start s) (plainStart (freshSender m)) (start-valid s k) (start-fits s f) h)
+
+with-agrees : (s : Settings) (m : RepeatMode) (is : List Item) → FitSettings s → Every FitItem is → ranWith s m is ≡ comparedWith s m is
+unfolding ranWith comparedWith
+with-agrees s m is f h = go (settingsHold s) refl (modeHolds m)
+  where
+    ran : List ℕ
+    ran = questionWords (questionOf (startOf s .trainer)) ++ ranFrom (startOf s .trainer) (freshSender m) is
+
+    compared : List ℕ
+    compared = askedWords (question (start s)) ++ comparedFrom (start s) (plainStart (freshSender m)) is
+
+    go :
+        (a : Bool) → settingsHold s ≡ a → (b : Bool)
+        → cond a (cond b (0 ∷ ran) (2 ∷ [])) (2 ∷ []) ≡ cond a (cond b (0 ∷ compared) (2 ∷ [])) (2 ∷ [])
+    go true e true = ap (λ (ws : List ℕ). 0 ∷ ws) (start-agrees s m is e f h)
+    go true e false = refl
+    go false e b = refl
+
+pub agrees : (script : List ℕ) → ranOf script ≡ comparedOf script
+agrees script = with-agrees (settings script) (mode script) (callsOf script) (settings-fit script) (calls-fit script)

@@ -1,0 +1,4 @@
+pub mod Script
+pub mod Compared
+pub mod Ran
+pub mod Turn

@@ -1,0 +1,229 @@
+// The calls, each with the words that are compared of it.
+ghost use mathlib.Core.Path.{_≡_};
+ghost use mathlib.Core.List.{[]};
+ghost use Prim.Native.Nat.{_≤_};
+ghost use lib.ListN.{length, replicate};
+ghost use Rattle.remy.specs.Cube.{pointOf};
+ghost use Rattle.rule_tree.specs.Calls.{lookupOf};
+ghost use Rattle.record.specs.Calls.{saveOf};
+ghost use Rattle.promise.specs.PlainTrainer as plain;
+ghost use Rattle.promise.specs.Demand3.{afterCall, stepOf};
+ghost use Rattle.promise.specs.SenderRuns.{afterReply, senderStep};
+ghost use Rattle.promise.specs.SenderRuns as moves;
+ghost use Rattle.runs.specs.Script as spec;
+ghost use Rattle.runs.specs.Ran.{lookedWords, endWords};
+ghost use Rattle.runs.specs.Turn.{Puts, Trains, Moves, trainerCall, senderCall};
+use crate::script;
+use crate::words;
+use record::Saved;
+use remy::point::Point;
+use rule_tree::RuleTree;
+use sender::Draw;
+use sender::Reply;
+use sender::Sender;
+use sender::inner::run::draw_from;
+use trainer::Answered;
+use trainer::Trainer;
+
+// The trainer after a call, and the place after the call's words.
+pub(crate) struct Trained {
+    pub(crate) trainer: Trainer,
+    pub(crate) at: usize,
+}
+
+// The sender after a call, and the place after the call's words.
+pub(crate) struct Reacted {
+    pub(crate) sender: Sender,
+    pub(crate) at: usize,
+}
+
+// The trainer after a call: after a refusal the one that the call got.
+fn kept(t: Trainer, a: Answered) -> Trainer
+    ensures { λ r. ⌜ r ≡ afterCall t a 0 [] .trainer ⌝ }
+{
+    if a.refused == 0 {
+        let after = a.trainer;
+        return after;
+    }
+    t
+}
+
+// The words of a call to the trainer that has saved the bytes.
+fn report(t: Trainer, a: Answered, saved: &[u8], out: &mut [u64], at: usize) -> Trained
+    requires { ⌜ at ≤ length (now out) ⌝ }
+    ensures { λ q. ⌜ Trains (now (out .entry)) at (afterCall t a (length (now (saved .entry))) (now (saved .entry))) q (now (out .exit)) ⌝ }
+{
+    let trainer = kept(t, a);
+    let next = words::put_pair(out, at, a.refused as u64, saved.len() as u64);
+    let last = words::put_bytes(out, next, saved);
+    let end = words::put_question(out, last, trainer.question());
+    Trained { trainer, at: end }
+}
+
+fn answer_counts(t: Trainer, counts: &[u64], out: &mut [u64], at: usize) -> Trained
+    requires { ⌜ at ≤ length (now out) ⌝ }
+    ensures { λ q. ⌜ Trains (now (out .entry)) at (stepOf t (plain.counts (now (counts .entry)))) q (now (out .exit)) ⌝ }
+{
+    let a = t.answer_counts(counts);
+    report(t, a, b"", out, at)
+}
+
+fn answer_score(t: Trainer, score: f64, out: &mut [u64], at: usize) -> Trained
+    requires { ⌜ at ≤ length (now out) ⌝ }
+    ensures { λ q. ⌜ Trains (now (out .entry)) at (stepOf t (plain.score score)) q (now (out .exit)) ⌝ }
+{
+    let a = t.answer_score(score);
+    report(t, a, b"", out, at)
+}
+
+// A save into the lent buffer, and the load of the bytes that were written.
+fn reload_by(t: Trainer, buffer: &mut [u8], out: &mut [u64], at: usize) -> Trained
+    requires { ⌜ at ≤ length (now out) ⌝ }
+    ensures { λ q. ⌜ Trains (now (out .entry)) at (stepOf t (plain.reload (now (buffer .entry)))) q (now (out .exit)) ⌝ }
+{
+    let saved = record::save(t, buffer);
+    match saved {
+        Saved::Size(n) => {
+            let a = record::load(&buffer[0..n]);
+            report(t, a, &buffer[0..n], out, at)
+        }
+        Saved::Refused(refused) => {
+            let a = Answered {
+                refused,
+                trainer: t,
+            };
+            report(t, a, b"", out, at)
+        }
+    }
+}
+
+fn reload(t: Trainer, n: usize, out: &mut [u64], at: usize) -> Trained
+    requires { ⌜ (at ≤ length (now out)) × (n ≤ 32768) ⌝ }
+    ensures { λ q. ⌜ Trains (now (out .entry)) at (stepOf t (plain.reload (replicate n 0))) q (now (out .exit)) ⌝ }
+{
+    let mut buffer = [0u8; 32768];
+    reload_by(t, &mut buffer[0..n], out, at)
+}
+
+// The record at the end, its size and its bytes.
+pub(crate) fn finish(t: Trainer, out: &mut [u64], at: usize) -> usize
+    requires { ⌜ at ≤ length (now out) ⌝ }
+    ensures { λ n. ⌜ Puts (now (out .entry)) at (endWords t (saveOf t (replicate 16388 0))) n (now (out .exit)) ⌝ }
+{
+    let mut buffer = [0u8; 16388];
+    let saved = record::save(t, &mut buffer);
+    let Saved::Size(n) = saved else {
+        return at;
+    };
+    let next = words::put(out, at, n as u64);
+    words::put_bytes(out, next, &buffer[0..n])
+}
+
+// The words of a call to the sender.
+fn react(s: Sender, reply: Reply, out: &mut [u64], at: usize) -> Reacted
+    requires { ⌜ at ≤ length (now out) ⌝ }
+    ensures { λ q. ⌜ Moves (now (out .entry)) at (afterReply s reply) q (now (out .exit)) ⌝ }
+{
+    match reply {
+        Reply::Taken(held) => {
+            let sender = held.sender;
+            let end = words::put_pair(out, at, 0, held.window as u64);
+            Reacted { sender, at: end }
+        }
+        Reply::Refused(number) => {
+            let end = words::put_pair(out, at, number as u64, 0);
+            Reacted { sender: s, at: end }
+        }
+    }
+}
+
+fn ack(
+    tree: RuleTree,
+    s: Sender,
+    sent: f64,
+    received: f64,
+    draw: Draw,
+    out: &mut [u64],
+    at: usize,
+) -> Reacted
+    requires { ⌜ at ≤ length (now out) ⌝ }
+    ensures { λ q. ⌜ Moves (now (out .entry)) at (senderStep s (moves.ack tree sent received draw)) q (now (out .exit)) ⌝ }
+{
+    let reply = s.ack_received(tree, sent, received, draw);
+    react(s, reply, out, at)
+}
+
+fn send(s: Sender, moment: f64, out: &mut [u64], at: usize) -> Reacted
+    requires { ⌜ at ≤ length (now out) ⌝ }
+    ensures { λ q. ⌜ Moves (now (out .entry)) at (senderStep s (moves.send moment)) q (now (out .exit)) ⌝ }
+{
+    let reply = s.packet_sent(moment);
+    react(s, reply, out, at)
+}
+
+fn tick(s: Sender, out: &mut [u64], at: usize) -> Reacted
+    requires { ⌜ at ≤ length (now out) ⌝ }
+    ensures { λ q. ⌜ Moves (now (out .entry)) at (senderStep s moves.tick) q (now (out .exit)) ⌝ }
+{
+    let held = s.tick();
+    react(s, Reply::Taken(held), out, at)
+}
+
+// The call to the trainer that stands first in the words, of that size.
+pub(crate) fn trainer_call(
+    t: Trainer,
+    ws: &[u64],
+    size: usize,
+    out: &mut [u64],
+    at: usize,
+) -> Trained
+    requires { ⌜ (at ≤ length (now out)) × ((size ≡ spec.sizeOf (now ws)) × (size ≤ length (now ws))) ⌝ }
+    ensures { λ q. ⌜ Trains (now (out .entry)) at (stepOf t (trainerCall (now (ws .entry)))) q (now (out .exit)) ⌝ }
+{
+    let code = script::word(ws, 0);
+    match code {
+        1 => answer_counts(t, &ws[2..size], out, at),
+        2 => answer_score(t, script::float(ws, 1), out, at),
+        _ => {
+            let n = (script::word(ws, 1) % 32768) as usize;
+            reload(t, n, out, at)
+        }
+    }
+}
+
+// The call to the sender that stands first in the words, an ack over the tree.
+pub(crate) fn sender_call(
+    tree: RuleTree,
+    s: Sender,
+    ws: &[u64],
+    out: &mut [u64],
+    at: usize,
+) -> Reacted
+    requires { ⌜ at ≤ length (now out) ⌝ }
+    ensures { λ q. ⌜ Moves (now (out .entry)) at (senderStep s (senderCall tree (now (ws .entry)))) q (now (out .exit)) ⌝ }
+{
+    let code = script::word(ws, 0);
+    let x = script::float(ws, 1);
+    match code {
+        4 => {
+            let received = script::float(ws, 2);
+            let draw = draw_from(script::word(ws, 3));
+            ack(tree, s, x, received, draw, out, at)
+        }
+        5 => send(s, x, out, at),
+        _ => tick(s, out, at),
+    }
+}
+
+// A lookup of the point that stands first in the words.
+pub(crate) fn lookup(tree: RuleTree, ws: &[u64], out: &mut [u64], at: usize) -> usize
+    requires { ⌜ at ≤ length (now out) ⌝ }
+    ensures { λ n. ⌜ Puts (now (out .entry)) at (lookedWords (lookupOf tree (pointOf (spec.float (now (ws .entry)) 1) (spec.float (now (ws .entry)) 2) (spec.float (now (ws .entry)) 3)))) n (now (out .exit)) ⌝ }
+{
+    let p = Point::new(
+        script::float(ws, 1),
+        script::float(ws, 2),
+        script::float(ws, 3),
+    );
+    words::put_looked(out, at, tree.action(p))
+}
