@@ -1,0 +1,113 @@
+//! Lookups of many points in one call, of one point in a call, and the load of a record.
+
+use std::hint::black_box;
+
+use flowforge::{
+    ccas::remy::{action::Action as RustAction, point::Point as RustPoint, rule_tree::RuleTree, RemyPolicy},
+    quantities::seconds,
+};
+
+use crate::{
+    clock::{alternate, repeat},
+    plain::Point,
+    raw, size,
+    table::{thousands, Table},
+    trees::Grown,
+};
+
+const POINTS: usize = 20_000;
+const ALONE: usize = 2_000;
+
+struct Asked {
+    bytes: Vec<u8>,
+    points: Vec<RustPoint>,
+}
+
+fn asked(points: &[Point]) -> Asked {
+    let bytes = points.iter().flatten().flat_map(|x| x.to_bits().to_be_bytes()).collect();
+    let point = |p: &Point| RustPoint { ack_ewma: seconds(p[0]), send_ewma: seconds(p[1]), rtt_ratio: p[2] };
+    Asked { bytes, points: points.iter().map(point).collect() }
+}
+
+fn theirs(tree: &RuleTree, points: &[RustPoint], out: &mut [Option<RustAction>]) {
+    for (slot, point) in out.iter_mut().zip(black_box(points)) {
+        *slot = tree.action(point);
+    }
+    black_box(out);
+}
+
+/// Both sides found the same, and all points found an action. The delays found.
+fn same(found: &[u8], actions: &[Option<RustAction>]) -> Vec<f64> {
+    assert_eq!(found.len(), 21 * actions.len());
+    let delays = found.chunks(21).zip(actions).map(|(bytes, action)| {
+        let action = action.as_ref().expect("a point inside the root box");
+        assert_eq!(bytes[0], 1);
+        assert_eq!(bytes[1..9], action.window_multiplier.to_bits().to_be_bytes());
+        assert_eq!(bytes[9..13], action.window_increment.to_be_bytes());
+        assert_eq!(bytes[13..21], action.intersend_delay.seconds().to_bits().to_be_bytes());
+        action.intersend_delay.seconds()
+    });
+    delays.collect()
+}
+
+pub fn many(table: &mut Table, tree: &Grown) {
+    let asked = asked(&tree.points(POINTS));
+    let mut found = vec![0; 21 * POINTS];
+    let mut actions = vec![None; POINTS];
+    assert_eq!(size(raw::lookup(&tree.record, &asked.bytes, &mut found)), found.len());
+    theirs(&tree.original, &asked.points, &mut actions);
+    let (levels, leaves) = tree.levels(&same(&found, &actions));
+    let times = alternate(
+        table.repeats,
+        POINTS,
+        || raw::lookup(&tree.record, &asked.bytes, &mut found),
+        || theirs(&tree.original, &asked.points, &mut actions),
+    );
+    same(&found, &actions);
+    let name = format!("lookup, {}, {} points a call", tree.name, thousands(POINTS));
+    let note =
+        format!("a point goes down {levels:.1} levels in the mean, and {leaves} of 449 leaves are reached");
+    table.timed(&name, "a point", &times, &note);
+}
+
+/// A call for each point, which loads the record each time.
+pub fn alone(table: &mut Table, tree: &Grown) {
+    let asked = asked(&tree.points(ALONE));
+    let mut found = vec![0; 21 * ALONE];
+    let mut actions = vec![None; ALONE];
+    let ours = |found: &mut [u8]| {
+        for (point, slot) in asked.bytes.chunks(24).zip(found.chunks_mut(21)) {
+            size(raw::lookup(&tree.record, point, slot));
+        }
+    };
+    ours(&mut found);
+    theirs(&tree.original, &asked.points, &mut actions);
+    same(&found, &actions);
+    let times = alternate(
+        table.repeats,
+        ALONE,
+        || ours(&mut found),
+        || theirs(&tree.original, &asked.points, &mut actions),
+    );
+    let name = format!("lookup, {}, one point a call", tree.name);
+    let note = "our call loads and tests the record; the Rust has its tree at hand";
+    table.timed(&name, "a point", &times, note);
+}
+
+/// Loading alone has no exported function; the question is the call that does least beside it.
+pub fn load(table: &mut Table, tree: &Grown) {
+    let mut question = [0; 31];
+    size(raw::question(&tree.record, &mut question));
+    assert_eq!(question[0], 3, "the trainer is done");
+    assert_eq!(question[23..], tree.trainer.progress().to_bits().to_be_bytes());
+    let ours = || {
+        for _ in 0..ALONE {
+            size(raw::question(&tree.record, &mut question));
+        }
+    };
+    let times = repeat(table.repeats, ALONE, ours);
+    let name = format!("load of {} bytes and the test of the trainer", thousands(tree.record.len()));
+    let note = "by knellstone_question, which also tests the trainer once more and writes 31 bytes; the \
+                originals have no record, so there is no counterpart";
+    table.ours_alone(&name, "a call", times, note);
+}
