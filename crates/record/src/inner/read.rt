@@ -63,7 +63,7 @@ pub fn word_at(bytes: &[u8], at: usize) -> u32
     number_at(bytes, at, 4) as u32
 }
 
-fn float_at(bytes: &[u8], at: usize) -> f64
+pub fn float_at(bytes: &[u8], at: usize) -> f64
     requires { ⌜ at ≤ 65536 ⌝ }
     ensures { λ r. ⌜ r ≡ floatAt (now (bytes .entry)) at ⌝ }
 {
@@ -71,7 +71,7 @@ fn float_at(bytes: &[u8], at: usize) -> f64
 }
 
 // The number whose 32 bits are b.
-fn signed(b: u32) -> i32
+pub fn signed(b: u32) -> i32
     ensures { λ r. ⌜ r ≡ toZ w32 b ⌝ }
 {
     let wide = b as i64;
@@ -82,7 +82,7 @@ fn signed(b: u32) -> i32
     }
 }
 
-fn action_at(bytes: &[u8], at: usize) -> Action
+pub fn action_at(bytes: &[u8], at: usize) -> Action
     requires { ⌜ at ≤ 65000 ⌝ }
     ensures { λ r. ⌜ r ≡ actionAt (now (bytes .entry)) at ⌝ }
 {
@@ -92,7 +92,7 @@ fn action_at(bytes: &[u8], at: usize) -> Action
     Action::new(multiplier, increment, delay)
 }
 
-fn settings_at(bytes: &[u8], at: usize) -> Settings
+pub fn settings_at(bytes: &[u8], at: usize) -> Settings
     requires { ⌜ at ≤ 60000 ⌝ }
     ensures { λ r. ⌜ r ≡ settingsAt (now (bytes .entry)) at ⌝ }
 {

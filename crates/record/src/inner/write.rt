@@ -36,7 +36,7 @@ pub fn put(buf: &mut [u8], at: usize, n: usize, x: u64)
 }
 
 // The 32 bits of x.
-fn bits_of(x: i32) -> u64
+pub fn bits_of(x: i32) -> u64
     ensures { λ r. ⌜ r ≡ ofZ w32 x ⌝ }
 {
     let wide = x as i64;
@@ -53,7 +53,7 @@ fn flag_of(b: bool) -> u8
     if b { 1 } else { 0 }
 }
 
-fn put_action(buf: &mut [u8], at: usize, a: Action)
+pub fn put_action(buf: &mut [u8], at: usize, a: Action)
     requires { ⌜ at + 20 ≤ length (now buf) ⌝ }
     ensures { λ _. ⌜ now (buf .exit) ≡ sets (now (buf .entry)) at (actionBytes a) ⌝ }
 {

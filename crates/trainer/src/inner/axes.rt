@@ -17,14 +17,14 @@ use crate::settings::Settings;
 use remy::action::Action;
 
 // The sums that an axis keeps: the first count of the values.
-struct FloatSums {
-    values: [f64; 16],
-    count: u32,
+pub struct FloatSums {
+    pub values: [f64; 16],
+    pub count: u32,
 }
 
-struct WholeSums {
-    values: [i32; 16],
-    count: u32,
+pub struct WholeSums {
+    pub values: [i32; 16],
+    pub count: u32,
 }
 
 pub fn numbers_hold(s: Settings) -> bool
@@ -210,7 +210,7 @@ fn kept_wholes(times: u32, first: i32, max: i32, at: i32, low: i32, high: i32) -
     kept
 }
 
-fn multiplier_sums(s: Settings, a: Action) -> FloatSums
+pub fn multiplier_sums(s: Settings, a: Action) -> FloatSums
     ensures { λ r. ⌜ HoldsFloats r (multiplierSums s a) ⌝ }
 {
     let initial = s.initial_change;
@@ -227,7 +227,7 @@ fn multiplier_sums(s: Settings, a: Action) -> FloatSums
     )
 }
 
-fn increment_sums(s: Settings, a: Action) -> WholeSums
+pub fn increment_sums(s: Settings, a: Action) -> WholeSums
     requires { ⌜ (settingsHold s ≡ true) × (validOf a ≡ true) ⌝ }
     ensures { λ r. ⌜ HoldsWholes r (incrementSums s a) ⌝ }
 {
@@ -245,7 +245,7 @@ fn increment_sums(s: Settings, a: Action) -> WholeSums
     )
 }
 
-fn delay_sums(s: Settings, a: Action) -> FloatSums
+pub fn delay_sums(s: Settings, a: Action) -> FloatSums
     ensures { λ r. ⌜ HoldsFloats r (delaySums s a) ⌝ }
 {
     let initial = s.initial_change;
