@@ -21,14 +21,6 @@ fn nanoseconds<T>(items: usize, run: &mut impl FnMut() -> T) -> f64 {
     start.elapsed().as_nanos() as f64 / items as f64
 }
 
-/// Twice untimed, then each repeat.
-pub fn repeat<T>(repeats: usize, items: usize, mut run: impl FnMut() -> T) -> Vec<f64> {
-    for _ in 0..2 {
-        black_box(run());
-    }
-    (0..repeats).map(|_| nanoseconds(items, &mut run)).collect()
-}
-
 /// Each side twice untimed, then in turn; which one is first alternates too.
 pub fn alternate<T, U>(
     repeats: usize,

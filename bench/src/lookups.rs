@@ -8,7 +8,7 @@ use flowforge::{
 };
 
 use crate::{
-    clock::{alternate, repeat},
+    clock::{alternate, Times},
     plain::Point,
     raw, size,
     table::{thousands, Table},
@@ -94,20 +94,49 @@ pub fn alone(table: &mut Table, tree: &Grown) {
     table.timed(&name, "a point", &times, note);
 }
 
-/// Loading alone has no exported function; the question is the call that does least beside it.
+/// Loading is a lookup of no point, the test for 10 what a question costs beyond it, and a save what a list of no
+/// answer costs beyond it.
 pub fn load(table: &mut Table, tree: &Grown) {
     let mut question = [0; 31];
+    let mut next = vec![0; tree.record.len()];
     size(raw::question(&tree.record, &mut question));
     assert_eq!(question[0], 3, "the trainer is done");
     assert_eq!(question[23..], tree.trainer.progress().to_bits().to_be_bytes());
-    let ours = || {
-        for _ in 0..ALONE {
-            size(raw::question(&tree.record, &mut question));
-        }
+    assert_eq!(size(raw::lookup(&tree.record, &[], &mut [])), 0);
+    assert_eq!(size(raw::answers(&tree.record, &[], &mut next)), next.len());
+    assert_eq!(next, tree.record, "the same bytes");
+    let many = |call: &mut dyn FnMut() -> u64| {
+        (0..ALONE).for_each(|_| {
+            size(call());
+        })
     };
-    let times = repeat(table.repeats, ALONE, ours);
-    let name = format!("load of {} bytes and the test of the trainer", thousands(tree.record.len()));
-    let note = "by knellstone_question, which also tests the trainer once more and writes 31 bytes; the \
-                originals have no record, so there is no counterpart";
-    table.ours_alone(&name, "a call", times, note);
+    let load = || many(&mut || raw::lookup(&tree.record, &[], &mut []));
+    let asks =
+        alternate(table.repeats, ALONE, || many(&mut || raw::question(&tree.record, &mut question)), load);
+    let saves =
+        alternate(table.repeats, ALONE, || many(&mut || raw::answers(&tree.record, &[], &mut next)), load);
+    let beyond = |times: &Times| {
+        times.ours.iter().zip(&times.theirs).map(|(more, load)| (more - load).max(0.0)).collect()
+    };
+    let bytes = thousands(tree.record.len());
+    let (test, save) = (beyond(&asks), beyond(&saves));
+    table.ours_alone(
+        &format!("load of {bytes} bytes"),
+        "a call",
+        asks.theirs,
+        "by knellstone_lookup with no point; the originals have no record",
+    );
+    table.ours_alone(
+        &format!("load and save of {bytes} bytes"),
+        "a call",
+        saves.ours,
+        "by knellstone_answers with no answer",
+    );
+    table.ours_alone(&format!("save of {bytes} bytes"), "a call", save, "the row above less the load");
+    table.ours_alone(
+        "the test for 10 of a trainer with 64 splits",
+        "a test",
+        test,
+        "knellstone_question less the load: it tests what was loaded once more and writes 31 bytes",
+    );
 }

@@ -5,6 +5,7 @@
 
 mod acks;
 mod clock;
+mod lists;
 mod lookups;
 mod memory;
 #[allow(dead_code, unused_imports)]
@@ -45,12 +46,11 @@ fn main() {
     }
     lookups::alone(&mut table, &trees[0]);
     lookups::load(&mut table, &trees[0]);
+    lists::candidates(&mut table);
+    lists::equality(&mut table, &trees[0]);
     training::whole(&mut table);
     memory::rows(&mut table, &trees[0]);
     table.print();
-    println!(
-        "\nnot measured: no exported function (candidate list at 36 and at 4,096, equality, save alone)"
-    );
 }
 
 /// The size that a call of libhost.a answers; a refusal ends the run.

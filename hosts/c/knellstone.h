@@ -48,6 +48,24 @@ uint64_t knellstone_answer_counts(const uint8_t *record, size_t record_len, cons
 uint64_t knellstone_answer_score(const uint8_t *record, size_t record_len, uint64_t score_bits, uint8_t *next,
                                  size_t next_len);
 
+/* Answers in turn, in one call, and writes the record after the last. The list is of groups: 1 and counts or 2 and
+ * scores, how many of them in 2 bytes, then 8 bytes each. All are taken, or the call is refused for the first that is
+ * not. 6, 7, 8, then 6 for a group that is cut or of another kind, 21, 4, 20, then 9 */
+uint64_t knellstone_answers(const uint8_t *record, size_t record_len, const uint8_t *list, size_t list_len,
+                            uint8_t *next, size_t next_len);
+
+/* The actions whose scores the trainer asks for in a row, whatever those scores are: KNELLSTONE_ACTION bytes each, at
+ * most 4,097. 6, 7, 8, 9 */
+uint64_t knellstone_asked(const uint8_t *record, size_t record_len, uint8_t *out, size_t out_len);
+
+/* All candidates of an action, in the order in which they are asked for: KNELLSTONE_ACTION bytes each, at most 4,096.
+ * 2, 6, 1, 9 */
+uint64_t knellstone_candidates(const uint8_t *settings, size_t settings_len, const uint8_t *action, size_t action_len,
+                               uint8_t *out, size_t out_len);
+
+/* 1 where the trees of two records are equal, else 0. 6, 7, 8 of the first, then of the second */
+uint64_t knellstone_equal(const uint8_t *a, size_t a_len, const uint8_t *b, size_t b_len);
+
 /* Looks many points up in the record's tree: KNELLSTONE_FOUND bytes each. 6, 7, 8, 6, 9 */
 uint64_t knellstone_lookup(const uint8_t *record, size_t record_len, const uint8_t *points, size_t points_len,
                            uint8_t *out, size_t out_len);

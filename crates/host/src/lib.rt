@@ -6,6 +6,8 @@ ghost use Rattle.panel_lines.specs.Panel.{panelOf, outAfter};
 ghost use Rattle.host_trainer.specs.Records.{startIn, scoreAnswered, countsAnswered, writtenOf, recordAfter};
 ghost use Rattle.host_trainer.specs.Questions.{askedIn, askedAfter};
 ghost use Rattle.host_trainer.specs.Lookups.{lookups, lookupsAfter, replaced, replacedAfter};
+ghost use Rattle.host_lists.specs.Lists.{candidatesIn, candidatesAfter, rowIn, rowAfter, equalIn};
+ghost use Rattle.host_answers.specs.Answers.{answersIn};
 ghost use Rattle.host_sender.specs.Layout.{newIn, newAfter};
 ghost use Rattle.host_sender.specs.Events.{events as eventsOf, senderLeft, repliesLeft};
 ghost use Rattle.host.specs.Answers.{answerOf, linesOf};
@@ -120,4 +122,40 @@ pub extern "C" fn knellstone_panel(input: &[u8], out: &mut [u8]) -> u64
 {
     let s = panel_lines::panel(input, out);
     lines(s)
+}
+
+// Answers in turn, in one call, and writes the record after the last; all are taken, or none.
+#[no_mangle]
+pub extern "C" fn knellstone_answers(held: &[u8], list: &[u8], out: &mut [u8]) -> u64
+    ensures { λ r. ⌜ (r ≡ answerOf (writtenOf (answersIn (now (held .entry)) (now (list .entry))) (now (out .entry)))) × (now (out .exit) ≡ recordAfter (answersIn (now (held .entry)) (now (list .entry))) (now (out .entry))) ⌝ }
+{
+    let s = host_answers::answers(held, list, out);
+    answer(s)
+}
+
+// The actions whose scores the trainer of a record asks for in a row.
+#[no_mangle]
+pub extern "C" fn knellstone_asked(held: &[u8], out: &mut [u8]) -> u64
+    ensures { λ r. ⌜ (r ≡ answerOf (rowIn (loadOf (now (held .entry))) (now (out .entry)))) × (now (out .exit) ≡ rowAfter (loadOf (now (held .entry))) (now (out .entry))) ⌝ }
+{
+    let s = host_lists::asked(held, out);
+    answer(s)
+}
+
+// All candidates of an action.
+#[no_mangle]
+pub extern "C" fn knellstone_candidates(settings: &[u8], action: &[u8], out: &mut [u8]) -> u64
+    ensures { λ r. ⌜ (r ≡ answerOf (candidatesIn (now (settings .entry)) (now (action .entry)) (now (out .entry)))) × (now (out .exit) ≡ candidatesAfter (now (settings .entry)) (now (action .entry)) (now (out .entry))) ⌝ }
+{
+    let s = host_lists::candidates(settings, action, out);
+    answer(s)
+}
+
+// 1 where the trees of two records are equal, else 0.
+#[no_mangle]
+pub extern "C" fn knellstone_equal(a: &[u8], b: &[u8]) -> u64
+    ensures { λ r. ⌜ r ≡ answerOf (equalIn (loadOf (now (a .entry))) (loadOf (now (b .entry)))) ⌝ }
+{
+    let s = host_lists::equal(a, b);
+    answer(s)
 }

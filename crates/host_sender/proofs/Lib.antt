@@ -1,6 +1,7 @@
 pub mod Reading
 pub mod Writing
 pub mod Running
+pub mod Asking
 pub mod NewWays
 pub mod EventWays
 pub mod Whole

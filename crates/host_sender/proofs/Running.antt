@@ -100,6 +100,15 @@ reply-written l at r {code} {window} e f q =
     wrote l (set l at code) at 1 (code ∷ []) (bytesOf 4 window) q refl refl
     ∙ (λ j. sets l at (e j ∷ bytesOf 4 (f j))) ∙ ap (sets l at) (reply-parts r)
 
+-- ---- the sender that a reply leaves
+pub left-taken : (u : Sender) {v : Sender} {r : Reply} {h : Held} → r ≡ reply.Taken h → v ≡ h .sender → v ≡ leftBy u r
+unfolding leftBy
+left-taken u e f = rw e f
+
+pub left-refused : (u : Sender) {v : Sender} {r : Reply} {k : ℕ} → r ≡ reply.Refused k → v ≡ u → v ≡ leftBy u r
+unfolding leftBy
+left-refused u e f = rw e f
+
 -- ---- the loop
 module _ (t : RuleTree) (s : Sender) (list : List ℕ) where
   pub none-yet : s ≡ senderAfter t s list 0

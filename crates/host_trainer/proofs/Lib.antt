@@ -1,6 +1,7 @@
 pub mod RecordWays
 pub mod QuestionWays
 pub mod LookupWays
+pub mod SpotWays
 pub mod TreesFit
 pub mod BytesFit
 pub mod StepsFit

@@ -1,15 +1,20 @@
 -- What the private functions of the code are held to.
-use mathlib.Core.Bool.{_&&_, cond}
+use mathlib.Core.Bool.{Bool, true, false, _&&_, cond}
 use mathlib.Core.List.{List, _∷_, _++_}
 use Prim.Native.Nat.{ℕ, _/_, _%_}
 use lib.ListN.{length, drop}
-use lib.Dec.{eqb, leb}
+use lib.Dec.{T, eqb, leb}
 use lib.Ieee.{Float}
 use Rattle.remy.specs.declared.action.Action.{Action}
 use Rattle.remy.specs.declared.point.Point.{Point}
+use Rattle.remy.specs.declared.cube.Cube.{Cube}
 use Rattle.remy.specs.Action.{validOf}
+use Rattle.remy.specs.Cube.{containsOf, Whole}
 use Rattle.rule_tree.specs.declared.RuleTree.{RuleTree}
 use Rattle.rule_tree.specs.declared.Looked.{Looked}
+use Rattle.rule_tree.specs.declared.Looked.the-variants as looked
+use Rattle.rule_tree.specs.Grown.{linksHold}
+use Rattle.rule_tree.specs.Walk.{walkOf}
 use Rattle.rule_tree.specs.Calls.{leafIn, replacedOf}
 use Rattle.trainer.specs.declared.Question.{Question}
 use Rattle.record.specs.declared.Saved.{Saved}
@@ -17,6 +22,7 @@ use Rattle.record.specs.declared.Saved.the-variants.{Size, Refused}
 use Rattle.record.specs.Bytes.{bytesOf}
 use Rattle.record.specs.Write.{floatBytes, actionBytes}
 use Rattle.record.specs.Read.{actionAt}
+use Rattle.host_trainer.specs.declared.inner.lookups.Spot.{Spot}
 use Rattle.host_trainer.specs.Questions.{questionBytes}
 use Rattle.host_trainer.specs.Lookups.{sized}
 
@@ -49,3 +55,17 @@ replacedFor t leaf action points out =
 
 abbrev pub replacedLook : RuleTree → ℕ → List ℕ → Point → Looked
 replacedLook t leaf action p = replacedOf (record { tree = t; leaf = leaf; action = actionAt action 0 }) p
+
+-- links and a root that every point inside can be walked in
+pub record Ready (cs : List ℕ) (root : Cube) : Type 0 where
+  pub links : T (linksHold cs 64)
+  pub whole : Whole root
+
+-- the leaf that a point reaches by these links; node 0 for a point outside the root
+unfoldable pub spotOf : List ℕ → Cube → Point → Spot
+spotOf cs root p =
+    cond (containsOf root p) (record { inside = true; node = walkOf cs root p .node }) (record { inside = false; node = 0 })
+
+-- what it finds, a being that leaf's action
+unfoldable pub foundAt : Bool → Action → Looked
+foundAt inside a = cond inside (looked.Found a) looked.Nothing

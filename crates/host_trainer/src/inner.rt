@@ -1,5 +1,4 @@
 // The work behind the calls of a host. What these functions require, the calls have tested.
-pub mod fields;
 pub mod lookups;
 pub mod questions;
 pub mod records;

@@ -3,7 +3,7 @@
 //!
 //!     lamp [FILE]      the record is saved in FILE, by default lamp.record in the temporary folder
 
-use knellstone::{Action, Event, Point, Question, RepeatMode, Sender, Settings, Trainer};
+use knellstone::{Action, Event, Point, Question, Refusal, RepeatMode, Sender, Settings, Trainer};
 
 /// What a link box may remember: quiet air with short gaps, busy air with long ones and a higher ratio.
 fn memories() -> Vec<Point> {
@@ -40,9 +40,11 @@ fn main() -> Result<(), Box<dyn std::error::Error>> {
                 trainer.answer_counts(&trainer.tally(&points))?;
                 progress
             }
-            Question::Score { leaf, action, progress } => {
-                scores += 1;
-                trainer.answer_score(score(&trainer.lookup_replaced(leaf, action, &points)?, &points))?;
+            Question::Score { leaf, progress, .. } => {
+                let of = |action| Ok(score(&trainer.lookup_replaced(leaf, action, &points)?, &points));
+                let row = trainer.asked().into_iter().map(of).collect::<Result<Vec<_>, Refusal>>()?;
+                scores += row.len();
+                trainer.answer_scores(&row)?;
                 progress
             }
             Question::Done { .. } => break,

@@ -140,6 +140,13 @@ impl Settings {
     }
 }
 
+impl Settings {
+    /// The candidates that an action may give way to, in the order in which they are asked for.
+    pub fn candidates(&self, action: Action) -> Result<Vec<Action>, Refusal> {
+        candidates(&self.to_bytes(), action)
+    }
+}
+
 /// What a trainer asks for. Progress goes from 0 to 1.
 #[derive(Clone, Copy, Debug, PartialEq)]
 pub enum Question {
@@ -150,6 +157,13 @@ pub enum Question {
     Done { progress: f64 },
 }
 
+/// What a trainer is answered with: counts, or scores of what it asked for in a row.
+#[derive(Clone, Debug, PartialEq)]
+pub enum Answer {
+    Counts(Vec<u64>),
+    Scores(Vec<f64>),
+}
+
 /// A trainer, kept as the bytes of its record.
 #[derive(Clone, Debug, PartialEq, Eq)]
 pub struct Trainer {
@@ -157,6 +171,8 @@ pub struct Trainer {
 }
 
 const RECORD_MOST: usize = 9708;
+const CANDIDATES_MOST: usize = 4096;
+const GROUP_MOST: usize = 65535;
 
 impl Trainer {
     pub fn start(settings: &Settings) -> Result<Self, Refusal> {
@@ -201,6 +217,49 @@ impl Trainer {
     pub fn answer_score(&mut self, score: f64) -> Result<(), Refusal> {
         self.record = written(RECORD_MOST, |out| raw::answer_score(&self.record, score.to_bits(), out))?;
         Ok(())
+    }
+
+    /// The actions whose scores it asks for in a row, whatever those scores are: of a leaf its own action and its
+    /// candidates, or what is left of them. None where it asks for counts, or is done.
+    pub fn asked(&self) -> Vec<Action> {
+        let out = written(20 * (1 + CANDIDATES_MOST), |out| raw::asked(&self.record, out));
+        actions(&out.expect("a trainer's record is accepted"))
+    }
+
+    /// Answers in turn, in one call. After a refusal the trainer is as it was before the first of them.
+    pub fn answer(&mut self, answers: &[Answer]) -> Result<(), Refusal> {
+        let mut list = Vec::new();
+        for answer in answers {
+            match answer {
+                Answer::Counts(counts) if counts.len() > GROUP_MOST => return Err(Refusal(4)),
+                Answer::Counts(counts) => group(&mut list, 1, counts.iter().copied()),
+                Answer::Scores(scores) => scores.chunks(GROUP_MOST).for_each(|part| scores_group(&mut list, part)),
+            }
+        }
+        self.answer_list(&list)
+    }
+
+    /// The scores of what it asked for in a row, or of the first of these.
+    pub fn answer_scores(&mut self, scores: &[f64]) -> Result<(), Refusal> {
+        let mut list = Vec::new();
+        scores.chunks(GROUP_MOST).for_each(|part| scores_group(&mut list, part));
+        self.answer_list(&list)
+    }
+
+    /// Answers in the bytes that docs/HOSTS.md lays out.
+    pub fn answer_list(&mut self, list: &[u8]) -> Result<(), Refusal> {
+        self.record = written(RECORD_MOST, |out| raw::answers(&self.record, list, out))?;
+        Ok(())
+    }
+
+    /// The candidates of an action by its own settings.
+    pub fn candidates(&self, action: Action) -> Result<Vec<Action>, Refusal> {
+        candidates(&self.record[5..118], action)
+    }
+
+    /// Whether the two trees are equal: the same boxes, with the same actions in their leaves.
+    pub fn same_tree(&self, other: &Trainer) -> bool {
+        size(raw::equal(&self.record, &other.record)).expect("a trainer's record is accepted") == 1
     }
 
     /// The action of the leaf that holds each point, or none outside the root box.
@@ -359,6 +418,26 @@ fn float(bytes: &[u8]) -> f64 {
 
 fn counts_bytes(counts: &[u64]) -> Vec<u8> {
     counts.iter().flat_map(|n| n.to_be_bytes()).collect()
+}
+
+/// Answers of one kind: how many in 2 bytes, then 8 bytes each.
+fn group(list: &mut Vec<u8>, kind: u8, numbers: impl ExactSizeIterator<Item = u64>) {
+    list.push(kind);
+    list.extend((numbers.len() as u16).to_be_bytes());
+    numbers.for_each(|n| list.extend(n.to_be_bytes()));
+}
+
+fn scores_group(list: &mut Vec<u8>, scores: &[f64]) {
+    group(list, 2, scores.iter().map(|x| x.to_bits()));
+}
+
+fn candidates(settings: &[u8], action: Action) -> Result<Vec<Action>, Refusal> {
+    let out = written(20 * CANDIDATES_MOST, |out| raw::candidates(settings, &action.to_bytes(), out))?;
+    Ok(actions(&out))
+}
+
+fn actions(bytes: &[u8]) -> Vec<Action> {
+    bytes.chunks(20).map(|b| Action::from_bytes(b.try_into().unwrap())).collect()
 }
 
 fn points_bytes(points: &[Point]) -> Vec<u8> {

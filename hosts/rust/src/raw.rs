@@ -10,6 +10,14 @@ mod c {
             record: *const u8, record_len: usize, counts: *const u8, counts_len: usize, out: *mut u8, out_len: usize,
         ) -> u64;
         pub fn knellstone_answer_score(record: *const u8, record_len: usize, bits: u64, out: *mut u8, out_len: usize) -> u64;
+        pub fn knellstone_answers(
+            record: *const u8, record_len: usize, list: *const u8, list_len: usize, out: *mut u8, out_len: usize,
+        ) -> u64;
+        pub fn knellstone_asked(record: *const u8, record_len: usize, out: *mut u8, out_len: usize) -> u64;
+        pub fn knellstone_candidates(
+            settings: *const u8, settings_len: usize, action: *const u8, action_len: usize, out: *mut u8, out_len: usize,
+        ) -> u64;
+        pub fn knellstone_equal(a: *const u8, a_len: usize, b: *const u8, b_len: usize) -> u64;
         pub fn knellstone_lookup(
             record: *const u8, record_len: usize, points: *const u8, points_len: usize, out: *mut u8, out_len: usize,
         ) -> u64;
@@ -44,6 +52,28 @@ pub fn answer_counts(record: &[u8], counts: &[u8], out: &mut [u8]) -> u64 {
 
 pub fn answer_score(record: &[u8], bits: u64, out: &mut [u8]) -> u64 {
     unsafe { c::knellstone_answer_score(record.as_ptr(), record.len(), bits, out.as_mut_ptr(), out.len()) }
+}
+
+pub fn answers(record: &[u8], list: &[u8], out: &mut [u8]) -> u64 {
+    unsafe {
+        c::knellstone_answers(record.as_ptr(), record.len(), list.as_ptr(), list.len(), out.as_mut_ptr(), out.len())
+    }
+}
+
+pub fn asked(record: &[u8], out: &mut [u8]) -> u64 {
+    unsafe { c::knellstone_asked(record.as_ptr(), record.len(), out.as_mut_ptr(), out.len()) }
+}
+
+pub fn candidates(settings: &[u8], action: &[u8], out: &mut [u8]) -> u64 {
+    unsafe {
+        c::knellstone_candidates(
+            settings.as_ptr(), settings.len(), action.as_ptr(), action.len(), out.as_mut_ptr(), out.len(),
+        )
+    }
+}
+
+pub fn equal(a: &[u8], b: &[u8]) -> u64 {
+    unsafe { c::knellstone_equal(a.as_ptr(), a.len(), b.as_ptr(), b.len()) }
 }
 
 pub fn lookup(record: &[u8], points: &[u8], out: &mut [u8]) -> u64 {

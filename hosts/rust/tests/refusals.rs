@@ -1,6 +1,6 @@
 //! What is excluded is refused by its number, and then nothing has changed.
 
-use knellstone::{Action, Event, Point, Refusal, RepeatMode, Sender, Settings, Trainer};
+use knellstone::{Action, Answer, Event, Point, Question, Refusal, RepeatMode, Sender, Settings, Trainer};
 
 fn fresh() -> Trainer {
     Trainer::start(&Settings::default()).unwrap()
@@ -32,6 +32,68 @@ fn answers() {
     assert_eq!(trainer, before);
     assert_eq!(trainer.answer_counts(&[1 << 53]), Ok(()));
     assert_ne!(trainer, before);
+}
+
+#[test]
+fn answers_in_a_row() {
+    let mut trainer = fresh();
+    let before = trainer.clone();
+    assert_eq!(trainer.asked(), []);
+    assert_eq!(trainer.answer_scores(&[1.0]), Err(Refusal(21)));
+    assert_eq!(trainer.answer(&[Answer::Counts(vec![1, 2])]), Err(Refusal(4)));
+    assert_eq!(trainer.answer(&[Answer::Counts(vec![0; 70_000])]), Err(Refusal(4)));
+    assert_eq!(trainer.answer(&[Answer::Counts(vec![5]), Answer::Counts(vec![5])]), Err(Refusal(21)));
+    for cut in [&[1][..], &[1, 0], &[1, 0, 1], &[2, 0, 1, 0, 0, 0, 0, 0, 0, 0], &[3, 0, 0], &[0, 0, 0]] {
+        assert_eq!(trainer.answer_list(cut), Err(Refusal(6)), "{cut:?}");
+    }
+    assert_eq!(trainer, before);
+    assert_eq!(trainer.answer(&[]), Ok(()));
+    assert_eq!(trainer.answer(&[Answer::Scores(vec![])]), Ok(()));
+    assert_eq!(trainer, before);
+    assert_eq!(trainer.answer(&[Answer::Counts(vec![5])]), Ok(()));
+
+    let settings = Settings::default();
+    let row = trainer.asked();
+    assert_eq!(row[0], settings.default);
+    assert_eq!(row[1..], settings.candidates(settings.default).unwrap());
+    assert_eq!(row.len(), 37);
+    let mut one_by_one = trainer.clone();
+    for i in 0..row.len() {
+        assert!(matches!(one_by_one.question(), Question::Score { leaf: 0, action, .. } if action == row[i]));
+        one_by_one.answer_score((i % 7) as f64).unwrap();
+        let mut some = trainer.clone();
+        some.answer_scores(&(0..=i).map(|k| (k % 7) as f64).collect::<Vec<_>>()).unwrap();
+        assert_eq!(some, one_by_one, "after {} scores", i + 1);
+    }
+    let held = trainer.clone();
+    let mut lowest = vec![1.0];
+    lowest.resize(38, 0.0);
+    assert_eq!(trainer.answer_scores(&lowest), Err(Refusal(21)), "no score is asked for after the last");
+    assert_eq!(trainer, held);
+    assert_eq!(trainer.answer_scores(&lowest[..37]), Ok(()));
+    assert!(matches!(trainer.question(), Question::Counts { .. }));
+}
+
+#[test]
+fn candidates() {
+    let settings = Settings::default();
+    let list = settings.candidates(Action::new(0.5, 20, 0.0015)).unwrap();
+    assert_eq!(list.len(), 216);
+    assert_eq!(settings.candidates(Action::new(f64::NAN, 0, 0.0)), Err(Refusal(1)));
+    let bad = Settings { rule_splits: 65, ..settings };
+    assert_eq!(bad.candidates(Action::new(f64::NAN, 0, 0.0)), Err(Refusal(2)));
+}
+
+#[test]
+fn equality() {
+    let trainer = fresh();
+    assert!(trainer.same_tree(&trainer));
+    let other = Settings { default: Action::new(0.5, 7, 0.001), ..Settings::default() };
+    assert!(!trainer.same_tree(&Trainer::start(&other).unwrap()));
+    let mut counted = trainer.clone();
+    counted.answer_counts(&[5]).unwrap();
+    assert_ne!(counted, trainer);
+    assert!(trainer.same_tree(&counted), "the tree alone is compared");
 }
 
 #[test]

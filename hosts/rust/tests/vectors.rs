@@ -1,5 +1,5 @@
 //! The host library answers the stored scripts with the lines that the originals gave (vectors/README.md).
-//! Lines of calls that the library doesn't have (wakes, tallies, candidates, tree prints, equality) are passed over.
+//! Lines of calls that the library doesn't have (wakes, tallies, tree prints) are passed over.
 
 use knellstone::{Action, Event, Point, Question, Refusal, Sender, Trainer};
 use std::{fs, path::Path};
@@ -149,17 +149,24 @@ fn call(script: &mut Script, trainer: &mut Trainer, sender: &mut Sender) -> Resu
             };
             Gives::Lines(vec![line, question(trainer)])
         }
-        7 => script.take(8).map(|_| Gives::Passes)?,
-        10 => script.take(24).map(|_| Gives::Passes)?,
-        11 => script.take(24).map(|_| Gives::Passes)?,
-        12 => Gives::Passes,
+        11 => {
+            let (action, k) = (script.action()?, script.number(4)? as usize);
+            let picked = |list: Vec<Action>| {
+                format!("candidates {} {}", list.len(), list.get(k).map_or("-".into(), |a| shown(*a)))
+            };
+            Gives::Lines(vec![trainer.candidates(action).map_or_else(refused, picked)])
+        }
         14 => {
             let n = script.number(4)? as usize;
             if n > 16_500 {
                 return Err(Bad);
             }
-            script.take(n).map(|_| Gives::Passes)?
+            let same = |other: Trainer| format!("equal {}", u8::from(trainer.same_tree(&other)));
+            Gives::Lines(vec![Trainer::load(script.take(n)?).map_or_else(refused, same)])
         }
+        7 => script.take(8).map(|_| Gives::Passes)?,
+        10 => script.take(24).map(|_| Gives::Passes)?,
+        12 => Gives::Passes,
         _ => return Err(Bad),
     })
 }

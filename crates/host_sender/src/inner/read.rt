@@ -1,14 +1,10 @@
 // The fields of a sender, each read at its place; what lies past the end reads as no bytes.
 ghost use mathlib.Core.Path.{_≡_};
 ghost use Prim.Native.Nat.{_≤_};
-ghost use mir.Syntax.{w32};
-ghost use mir.Val.{toZ};
-ghost use Rattle.record.specs.Read.{floatAt, actionAt};
 ghost use Rattle.host_sender.specs.Layout.{momentAt, averageAt, tripsAt, pendingAt, modeAt, senderAt, modeWhole};
 use quantities::Time;
 use quantities::TimeSpan;
 use record::inner::read;
-use remy::action::Action;
 use sender::Average;
 use sender::Moment;
 use sender::Pending;
@@ -16,41 +12,12 @@ use sender::RepeatMode;
 use sender::Rtt;
 use sender::Sender;
 
-pub fn float_at(bytes: &[u8], at: usize) -> f64
-    requires { ⌜ at ≤ 65536 ⌝ }
-    ensures { λ r. ⌜ r ≡ floatAt (now (bytes .entry)) at ⌝ }
-{
-    floats::from_bits(read::number_at(bytes, at, 8))
-}
-
-// The number whose 32 bits are b.
-fn signed(b: u32) -> i32
-    ensures { λ r. ⌜ r ≡ toZ w32 b ⌝ }
-{
-    let wide = b as i64;
-    if b < 2147483648 {
-        wide as i32
-    } else {
-        (wide - 4294967296) as i32
-    }
-}
-
-fn action_at(bytes: &[u8], at: usize) -> Action
-    requires { ⌜ at ≤ 65000 ⌝ }
-    ensures { λ r. ⌜ r ≡ actionAt (now (bytes .entry)) at ⌝ }
-{
-    let multiplier = float_at(bytes, at);
-    let increment = signed(read::word_at(bytes, at + 8));
-    let delay = float_at(bytes, at + 12);
-    Action::new(multiplier, increment, delay)
-}
-
 fn moment_at(bytes: &[u8], at: usize) -> Moment
     requires { ⌜ at ≤ 65000 ⌝ }
     ensures { λ r. ⌜ r ≡ momentAt (now (bytes .entry)) at ⌝ }
 {
     if read::flag_at(bytes, at) {
-        let since = TimeSpan(float_at(bytes, at + 1));
+        let since = TimeSpan(read::float_at(bytes, at + 1));
         return Moment::At(Time::from_start(since));
     }
     Moment::Never
@@ -61,7 +28,7 @@ fn average_at(bytes: &[u8], at: usize) -> Average
     ensures { λ r. ⌜ r ≡ averageAt (now (bytes .entry)) at ⌝ }
 {
     if read::flag_at(bytes, at) {
-        return Average::Of(TimeSpan(float_at(bytes, at + 1)));
+        return Average::Of(TimeSpan(read::float_at(bytes, at + 1)));
     }
     Average::Empty
 }
@@ -71,8 +38,8 @@ fn trips_at(bytes: &[u8], at: usize) -> Rtt
     ensures { λ r. ⌜ r ≡ tripsAt (now (bytes .entry)) at ⌝ }
 {
     if read::flag_at(bytes, at) {
-        let shortest = TimeSpan(float_at(bytes, at + 1));
-        let current = TimeSpan(float_at(bytes, at + 9));
+        let shortest = TimeSpan(read::float_at(bytes, at + 1));
+        let current = TimeSpan(read::float_at(bytes, at + 9));
         return Rtt::Known(shortest, current);
     }
     Rtt::Unknown
@@ -84,7 +51,7 @@ fn pending_at(bytes: &[u8], at: usize) -> Pending
 {
     if read::flag_at(bytes, at) {
         let left = read::word_at(bytes, at + 1);
-        let a = action_at(bytes, at + 5);
+        let a = read::action_at(bytes, at + 5);
         return Pending::Repeat(left, a);
     }
     Pending::Idle
@@ -119,7 +86,7 @@ pub fn read_sender(bytes: &[u8]) -> Sender
     let repeat_actions = mode_at(bytes, 78);
     let last_send = moment_at(bytes, 87);
     let window = read::word_at(bytes, 96);
-    let intersend_delay = TimeSpan(float_at(bytes, 100));
+    let intersend_delay = TimeSpan(read::float_at(bytes, 100));
     Sender {
         last_ack,
         last_ack_send,

@@ -5,22 +5,27 @@ ghost use Prim.Native.Nat.{_+_, _*_, _≤_};
 ghost use lib.ListN.{length};
 ghost use lib.Seq.{sets};
 ghost use Rattle.rule_tree.specs.Grown.{grownOf};
-ghost use Rattle.host_sender.specs.Events.{drawAt, eventOn, senderAfter, replyBytes, repliesBytes, senderLeft, repliesLeft};
-ghost use Rattle.host_sender.specs.Parts.{codeOf, shownBy, eventsFit};
-use crate::inner::read::float_at;
+ghost use Rattle.sender.specs.Run.{Ready};
+ghost use Rattle.host_sender.specs.Events.{drawAt, senderAfter, replyBytes, repliesBytes, senderLeft, repliesLeft};
+ghost use Rattle.host_sender.specs.Parts.{codeOf, shownBy, eventsFit, EventAsks};
 use crate::inner::read::read_sender;
 use crate::inner::write::write_sender;
 use record::Saved;
 use record::inner::read::byte_at;
 use record::inner::read::flag_at;
+use record::inner::read::float_at;
 use record::inner::read::word_at;
 use record::inner::write::put;
+use remy::cube::Cube;
 use rule_tree::RuleTree;
+use rule_tree::inner::links;
 use sender::Draw;
 use sender::Reply;
 use sender::Sender;
-use sender::inner::acks::acked;
-use sender::inner::run::left_by;
+use sender::inner::run::Asked;
+use sender::inner::run::answer;
+use sender::inner::run::ask;
+use sender::inner::run::node_of;
 
 fn draw_at(bytes: &[u8], at: usize) -> Draw
     requires { ⌜ at ≤ 65000 ⌝ }
@@ -32,22 +37,21 @@ fn draw_at(bytes: &[u8], at: usize) -> Draw
     Draw::Absent
 }
 
-// One event: an ack, a send, or a tick.
-fn event(tree: RuleTree, s: Sender, bytes: &[u8]) -> Reply
-    requires { ⌜ grownOf tree ≡ true ⌝ }
-    ensures { λ r. ⌜ r ≡ eventOn tree s (now (bytes .entry)) 0 ⌝ }
+// One event, an ack, a send, or a tick, up to the leaf that an ack asks for.
+fn event(children: &[u16; 513], root: Cube, s: Sender, bytes: &[u8]) -> Asked
+    requires { ⌜ Ready (now children) root ⌝ }
+    ensures { λ r. ⌜ EventAsks (now (children .entry)) root s (now (bytes .entry)) r ⌝ }
 {
     let code = byte_at(bytes, 0);
     let sent = float_at(bytes, 1);
     if code == 0 {
         let received = float_at(bytes, 9);
-        let draw = draw_at(bytes, 17);
-        return acked(tree, s, sent, received, draw);
+        return ask(children, root, s, sent, received);
     }
     if code == 1 {
-        return s.packet_sent(sent);
+        return Asked::Answer(s.packet_sent(sent));
     }
-    Reply::Taken(s.tick())
+    Asked::Answer(Reply::Taken(s.tick()))
 }
 
 // The refusal's number, or 0.
@@ -79,18 +83,30 @@ fn put_reply(out: &mut [u8], at: usize, reply: Reply)
     put(out, at + 1, 4, window);
 }
 
-// The sender after the first n events, whose replies are put into out.
+// The sender after the first n events, whose replies are put into out. The links are gathered once, and each event reads one node.
 fn run(tree: RuleTree, s: Sender, list: &[u8], n: usize, out: &mut [u8]) -> Sender
     requires { ⌜ (grownOf tree ≡ true) × (22 * n ≤ length (now list)) × (5 * n ≤ length (now out)) ⌝ }
     ensures { λ r. ⌜ (r ≡ senderAfter tree s (now (list .entry)) n) × (now (out .exit) ≡ sets (now (out .entry)) 0 (repliesBytes tree s (now (list .entry)) n)) ⌝ }
 {
+    let e = tree.ends;
+    let root = Cube::root(e);
+    let children = links::children_of(tree);
     let mut left = s;
     let mut i: usize = 0;
     while i < n {
         let at = 22 * i;
-        let reply = event(tree, left, &list[at..at + 22]);
+        let bytes = &list[at..at + 22];
+        let asked = event(&children, root, left, bytes);
+        let draw = draw_at(bytes, 17);
+        let node = node_of(asked) as usize;
+        let x = tree.nodes[node];
+        let a = x.action;
+        let reply = answer(asked, a, draw);
         put_reply(out, 5 * i, reply);
-        left = left_by(left, reply);
+        if let Reply::Taken(h) = reply {
+            let after = h.sender;
+            left = after;
+        }
         i += 1;
     }
     left

@@ -4,46 +4,20 @@ ghost use mathlib.Core.List.{_∷_, _++_};
 ghost use Prim.Native.Nat.{_+_, _≤_};
 ghost use lib.ListN.{length};
 ghost use lib.Seq.{sets};
-ghost use mir.Syntax.{w32};
-ghost use mir.Val.{ofZ};
 ghost use Rattle.record.specs.Bytes.{bytesOf};
-ghost use Rattle.record.specs.Write.{floatBytes, actionBytes};
+ghost use Rattle.record.specs.Write.{floatBytes};
 ghost use Rattle.host_sender.specs.Layout.{momentBytes, averageBytes, tripsBytes, pendingBytes, modeBytes, senderBytes, fitted};
 ghost use Rattle.host_sender.specs.Parts.{memoryBytes, paceBytes, storedIn};
 ghost use Rattle.sender.specs.declared.Made.the-variants.{Ready};
 use record::Saved;
 use record::inner::write::put;
-use remy::action::Action;
+use record::inner::write::put_action;
 use sender::Average;
 use sender::Moment;
 use sender::Pending;
 use sender::RepeatMode;
 use sender::Rtt;
 use sender::Sender;
-
-// The 32 bits of x.
-fn bits_of(x: i32) -> u64
-    ensures { λ r. ⌜ r ≡ ofZ w32 x ⌝ }
-{
-    let wide = x as i64;
-    if wide < 0 {
-        (wide + 4294967296) as u64
-    } else {
-        wide as u64
-    }
-}
-
-fn put_action(buf: &mut [u8], at: usize, a: Action)
-    requires { ⌜ at + 20 ≤ length (now buf) ⌝ }
-    ensures { λ _. ⌜ now (buf .exit) ≡ sets (now (buf .entry)) at (actionBytes a) ⌝ }
-{
-    let multiplier = floats::to_bits(a.window_multiplier);
-    let increment = bits_of(a.window_increment);
-    let delay = floats::to_bits(a.intersend_delay.0);
-    put(buf, at, 8, multiplier);
-    put(buf, at + 8, 4, increment);
-    put(buf, at + 12, 8, delay);
-}
 
 // The flag 1, and a float.
 fn put_float(buf: &mut [u8], at: usize, x: f64)

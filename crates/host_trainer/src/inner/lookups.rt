@@ -7,23 +7,57 @@ ghost use lib.Seq.{sets};
 ghost use Rattle.rule_tree.specs.Grown.{grownOf};
 ghost use Rattle.rule_tree.specs.Calls.{foundIn};
 ghost use Rattle.host_trainer.specs.Lookups.{pointAt, foundBytes, lookedBytes, sized, looksAfter};
-ghost use Rattle.host_trainer.specs.Parts.{replacedFor, replacedLook};
-use crate::inner::fields;
+ghost use Rattle.host_trainer.specs.Parts.{replacedFor, replacedLook, Ready, spotOf, foundAt};
 use record::Saved;
+use record::inner::read;
 use record::inner::write;
+use remy::action::Action;
+use remy::cube::Cube;
 use remy::point::Point;
 use rule_tree::Looked;
 use rule_tree::RuleTree;
 use rule_tree::inner::change;
+use rule_tree::inner::links;
 use rule_tree::inner::walk;
+
+// Whether a point lies in the root box, and the leaf that it reaches there.
+pub struct Spot {
+    pub inside: bool,
+    pub node: u16,
+}
 
 fn point_of(bytes: &[u8]) -> Point
     ensures { λ r. ⌜ r ≡ pointAt (now (bytes .entry)) 0 ⌝ }
 {
-    let ack = fields::float_at(bytes, 0);
-    let send = fields::float_at(bytes, 8);
-    let ratio = fields::float_at(bytes, 16);
+    let ack = read::float_at(bytes, 0);
+    let send = read::float_at(bytes, 8);
+    let ratio = read::float_at(bytes, 16);
     Point::new(ack, send, ratio)
+}
+
+// The leaf that p reaches by a tree's links; node 0 for a point outside the root.
+fn seek(children: &[u16; 513], root: Cube, p: Point) -> Spot
+    requires { ⌜ Ready (now children) root ⌝ }
+    ensures { λ r. ⌜ r ≡ spotOf (now (children .entry)) root p ⌝ }
+{
+    if root.contains(p) {
+        let node = walk::walk(children, root, p).node;
+        return Spot { inside: true, node };
+    }
+    Spot {
+        inside: false,
+        node: 0,
+    }
+}
+
+// What a point finds, with the action of the leaf that it reaches.
+fn found_at(inside: bool, a: Action) -> Looked
+    ensures { λ r. ⌜ r ≡ foundAt inside a ⌝ }
+{
+    if inside {
+        return Looked::Found(a);
+    }
+    Looked::Nothing
 }
 
 // 1 and the action, or zeros.
@@ -36,20 +70,27 @@ fn put_found(out: &mut [u8], at: usize, found: Looked)
         return;
     };
     out[at] = 1;
-    fields::put_action(out, at + 1, a);
+    write::put_action(out, at + 1, a);
 }
 
-// What the first n points find.
+// What the first n points find: the links are gathered once, and each point reads one node.
 fn put_looks(out: &mut [u8], tree: RuleTree, points: &[u8], n: usize)
     requires { ⌜ (grownOf tree ≡ true) × (24 * n ≤ length (now points)) × (21 * n ≤ length (now out)) ⌝ }
     ensures { λ _. ⌜ now (out .exit) ≡ sets (now (out .entry)) 0 (lookedBytes (foundIn tree) (now (points .entry)) n) ⌝ }
 {
+    let e = tree.ends;
+    let root = Cube::root(e);
+    let children = links::children_of(tree);
     let mut i: usize = 0;
     while i < n {
         let from = 24 * i;
         let to = from + 24;
         let p = point_of(&points[from..to]);
-        let found = walk::looked(tree, p);
+        let spot = seek(&children, root, p);
+        let node = spot.node as usize;
+        let x = tree.nodes[node];
+        let a = x.action;
+        let found = found_at(spot.inside, a);
         put_found(out, 21 * i, found);
         i += 1;
     }
@@ -84,7 +125,7 @@ pub fn look_replaced(
 {
     if change::is_leaf(tree, leaf) {
         if action.len() == 20 {
-            let other = fields::action_at(action, 0);
+            let other = read::action_at(action, 0);
             if other.valid() {
                 let changed = change::with_action(tree, leaf, other);
                 return look_all(changed, points, out);

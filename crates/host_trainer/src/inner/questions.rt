@@ -2,7 +2,6 @@
 ghost use mathlib.Core.Path.{_≡_};
 ghost use Rattle.host_trainer.specs.Questions.{fitted, questionIn, questionAfter};
 ghost use Rattle.host_trainer.specs.Parts.{fieldsFit, fieldsAfter, questionFields, questionPut};
-use crate::inner::fields;
 use record::Saved;
 use record::inner::write;
 use remy::action::Action;
@@ -18,7 +17,7 @@ fn put_fields(out: &mut [u8], kind: u8, leaf: u16, a: Action, progress: f64) -> 
     let bits = floats::to_bits(progress);
     out[0] = kind;
     write::put(out, 1, 2, leaf as u64);
-    fields::put_action(out, 3, a);
+    write::put_action(out, 3, a);
     write::put(out, 23, 8, bits);
     Saved::Size(31)
 }

@@ -6,7 +6,6 @@ ghost use Rattle.rule_tree.specs.Lists.{tabulate};
 ghost use Rattle.record.specs.Bytes.{numberAt};
 ghost use Rattle.host_trainer.specs.Records.{startIn, scoreAnswered, countsAnswered, writtenOf, recordAfter};
 ghost use Rattle.host_trainer.specs.Parts.{countOf};
-use crate::inner::fields;
 use record::Saved;
 use record::inner::body;
 use record::inner::read;
@@ -30,7 +29,7 @@ pub fn started(settings: &[u8]) -> Answered
 {
     if settings.len() == 113 {
         if read::byte_at(settings, 12) <= 1 {
-            let s = fields::settings_of(settings);
+            let s = read::settings_at(settings, 0);
             return Trainer::start(s);
         }
     }
@@ -50,7 +49,7 @@ pub fn scored(held: &[u8], bits: u64) -> Answered
 }
 
 // How many counts there are: none where they are cut, or more than any tree's.
-fn count_of(bytes: &[u8]) -> usize
+pub fn count_of(bytes: &[u8]) -> usize
     ensures { λ r. ⌜ r ≡ countOf (now (bytes .entry)) ⌝ }
 {
     let n = bytes.len();
@@ -63,7 +62,7 @@ fn count_of(bytes: &[u8]) -> usize
 }
 
 // The first n counts.
-fn counts_of(bytes: &[u8], n: usize) -> [u64; 513]
+pub fn counts_of(bytes: &[u8], n: usize) -> [u64; 513]
     requires { ⌜ n ≤ 513 ⌝ }
     ensures { λ r. ⌜ take n r ≡ tabulate n (λ i. numberAt (now (bytes .entry)) (8 * i) 8) ⌝ }
 {

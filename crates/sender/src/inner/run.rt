@@ -71,7 +71,7 @@ fn fewest_of(a: usize, b: usize, c: usize) -> usize
 }
 
 // An ack up to the leaf that its point reaches.
-fn ask(children: &[u16; 513], root: Cube, s: Sender, sent: f64, received: f64) -> Asked
+pub fn ask(children: &[u16; 513], root: Cube, s: Sender, sent: f64, received: f64) -> Asked
     requires { ⌜ Ready (now children) root ⌝ }
     ensures { λ r. ⌜ Asks (now (children .entry)) root s sent received r ⌝ }
 {
@@ -100,7 +100,7 @@ fn ask(children: &[u16; 513], root: Cube, s: Sender, sent: f64, received: f64) -
     }
 }
 
-fn node_of(asked: Asked) -> u16
+pub fn node_of(asked: Asked) -> u16
     ensures { λ r. ⌜ r ≡ nodeOf asked ⌝ }
 {
     match asked {
@@ -110,7 +110,7 @@ fn node_of(asked: Asked) -> u16
 }
 
 // The ack's answer, with the action of the leaf that it asked for.
-fn answer(asked: Asked, a: Action, draw: Draw) -> Reply
+pub fn answer(asked: Asked, a: Action, draw: Draw) -> Reply
     ensures { λ r. ⌜ r ≡ answered asked a draw ⌝ }
 {
     match asked {

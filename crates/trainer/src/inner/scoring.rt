@@ -71,7 +71,7 @@ fn next_candidate(t: Trainer, kept: u16, score: f64) -> Trainer
 }
 
 // A score is kept if it is above best and no lower than the one kept.
-fn keeps(best: f64, kept: u16, score: f64, x: f64) -> bool
+pub fn keeps(best: f64, kept: u16, score: f64, x: f64) -> bool
     ensures { λ r. ⌜ r ≡ keepsIn best kept score x ⌝ }
 {
     if best < x {

@@ -1,6 +1,6 @@
 -- `event` takes the cases of its definition. Assumes nothing.
 use borrow.Author.Needs.{needs}
-use Rattle.host_sender.proofs.Running as law
+use Rattle.host_sender.proofs.Asking as law
 use Rattle.host_sender.proofs.inner.run.event.Statement.{statement}
 use Rattle.host_sender.proofs.inner.run.event.Tie as tie
 
@@ -13,30 +13,26 @@ float-at-requires c κs = search needs
 float-at-requires-2 : tie.Need-float-at-requires-2
 float-at-requires-2 c κs = search needs
 
-draw-at-requires : tie.Need-draw-at-requires
-draw-at-requires c κs = search needs
-
-acked-requires : tie.Need-acked-requires
-acked-requires c κs = search needs
+ask-requires : tie.Need-ask-requires
+ask-requires c κs = c .before .before .before .before .before .pre
 
 returns : tie.Need-returns
-returns c = law.by-ack _ _ (c .before .before .before .before .before .before .before .args .bytes .now) (c .before .before .before .before .before .byte-at .ensures) (c .before .before .before .before .before .before .before .pre) (c .before .before .before .if1 .taken) (c .before .before .before .before .float-at .ensures) (c .before .before .float-at2 .ensures) (c .before .draw-at .ensures) (c .acked .ensures)
+returns c =
+    law.ack-asks _ _ _ _ (c .before .before .before .before .byte-at .ensures) (c .before .before .if1 .taken) (c .before .before .before .float-at .ensures) (c .before .float-at2 .ensures) (c .ask .ensures)
 
 packet-sent-requires : tie.Need-packet-sent-requires
 packet-sent-requires c κs = search needs
 
 returns-2 : tie.Need-returns-2
 returns-2 c =
-    let s = c .before .before .before .before .before .before in
-    law.by-send (s .args .tree) _ (s .args .bytes .now) (c .before .before .before .before .byte-at .ensures) (c .before .before .if1 .left) (c .before .if2 .taken) (c .before .before .before .float-at .ensures) (c .packet-sent .ensures)
+    law.send-asks _ _ _ _ (c .before .before .before .before .byte-at .ensures) (c .before .before .if1 .left) (c .before .if2 .taken) (c .before .before .before .float-at .ensures) (c .packet-sent .ensures)
 
 tick-requires : tie.Need-tick-requires
 tick-requires c κs = search needs
 
 returns-3 : tie.Need-returns-3
 returns-3 c =
-    let s = c .before .before .before .before .before .before in
-    law.by-tick (s .args .tree) _ (s .args .bytes .now) (c .before .before .before .before .byte-at .ensures) (c .before .before .if1 .left) (c .before .if2 .left) (c .tick .ensures)
+    law.tick-asks _ _ _ _ (c .before .before .before .before .byte-at .ensures) (c .before .before .if1 .left) (c .before .if2 .left) (c .tick .ensures)
 
 pub event-spec : {M : Type 1} → statement M
 event-spec =
@@ -45,8 +41,7 @@ event-spec =
     byte-at-requires
     float-at-requires
     float-at-requires-2
-    draw-at-requires
-    acked-requires
+    ask-requires
     returns
     packet-sent-requires
     returns-2

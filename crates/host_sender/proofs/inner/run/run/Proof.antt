@@ -1,67 +1,111 @@
 -- `run` meets its contract. The loop's invariant: the first i events left the sender, and their replies are in out. Assumes nothing.
 use mathlib.Core.Path.{_≡_, refl, _∙_}
+use mathlib.Core.Logic.{⊎-elim}
 use Prim.Native.Nat.{_+_, _-_, _*_, _≤_}
 use native.Mathlib.Omega.{arith}
 use lib.ListN.{length}
 use lib.Seq.{sets}
 use borrow.Author.Needs.{needs}
+use Rattle.remy.specs.Cube.{rootOf, Whole}
+use Rattle.rule_tree.proofs.Links.{grown-whole}
+use Rattle.sender.specs.Run.{Ready}
+use Rattle.sender.proofs.Running as acks
 use Rattle.host_sender.specs.Events.{senderAfter, repliesBytes}
+use Rattle.host_sender.proofs.Asking as ask
 use Rattle.host_sender.proofs.Running as law
 use Rattle.host_sender.proofs.inner.run.run.Statement.{statement}
 use Rattle.host_sender.proofs.inner.run.run.Tie as tie
 
 abbrev Inv-loop : tie.InvT-loop
-Inv-loop tree list n out₀ left₀ i₀ out left i = (i ≤ n) × (length out ≡ length out₀)
+Inv-loop list n out₀ tree root children left₀ i₀ out left i = (i ≤ n) × (length out ≡ length out₀)
     × ((left ≡ senderAfter tree left₀ list i) × (out ≡ sets out₀ 0 (repliesBytes tree left₀ list i)))
 
 abbrev μ-loop : tie.MeasureT-loop
-μ-loop tree list n out₀ left₀ i₀ out left i = n - i
+μ-loop list n out₀ tree root children left₀ i₀ out left i = n - i
+
+whole : (c : tie.Start Inv-loop μ-loop) → Whole (rootOf (c .args .t1 .ends))
+whole c = grown-whole (c .args .t1) (c .pre .0) (record { acks = search needs; sends = search needs; ratios = search needs })
+
+-- the gathered links and root are the tree's
+ready : (c : tie.At-loop Inv-loop μ-loop) → Ready (c .before .children-of .result) (c .before .before .root .result)
+ready c = let s = c .before .before .before .before .before .before in
+    acks.ready (s .args .t1) (s .pre .0) (whole s) (c .before .children-of .ensures) (c .before .before .root .ensures)
+
+root-requires : tie.Need-root-requires Inv-loop μ-loop
+root-requires c κs = search needs
+
+children-of-requires : tie.Need-children-of-requires Inv-loop μ-loop
+children-of-requires c κs = search needs
 
 loop-holds : tie.Need-loop-holds Inv-loop μ-loop
-loop-holds c = (search needs, refl, (law.none-yet (c .before .before .args .tree) (c .before .before .args .s) (c .before .before .args .list .now), law.none-put (c .before .before .args .tree) (c .before .before .args .s) (c .before .before .args .list .now) (c .before .before .args .out .now)))
+loop-holds c = let s = c .before .before .before .before .before in
+    (search needs, refl, (law.none-yet (s .args .t1) (s .args .s) (s .args .list .now), law.none-put (s .args .t1) (s .args .s) (s .args .list .now) (s .args .out .now)))
 
 mul-at : tie.Need-mul-at Inv-loop μ-loop
 mul-at c = search needs
 
-add-event : tie.Need-add-event Inv-loop μ-loop
-add-event c = search needs
+add-bytes : tie.Need-add-bytes Inv-loop μ-loop
+add-bytes c = search needs
 
-sub-event : tie.Need-sub-event Inv-loop μ-loop
-sub-event c = search needs
+sub-bytes : tie.Need-sub-bytes Inv-loop μ-loop
+sub-bytes c = search needs
 
-part-event-start : tie.Need-part-event-start Inv-loop μ-loop
-part-event-start c = search needs
+part-bytes-start : tie.Need-part-bytes-start Inv-loop μ-loop
+part-bytes-start c = search needs
 
-part-event-end : tie.Need-part-event-end Inv-loop μ-loop
-part-event-end c = search needs
+part-bytes-end : tie.Need-part-bytes-end Inv-loop μ-loop
+part-bytes-end c = search needs
 
 event-requires : tie.Need-event-requires Inv-loop μ-loop
-event-requires c κs = search needs
+event-requires c κs = ready (c .before .before .before)
+
+draw-at-requires : tie.Need-draw-at-requires Inv-loop μ-loop
+draw-at-requires c κs = search needs
+
+node-of-requires : tie.Need-node-of-requires Inv-loop μ-loop
+node-of-requires c κs = search needs
+
+cast-node : tie.Need-cast-node Inv-loop μ-loop
+cast-node c = search needs
+
+mul-x : tie.Need-mul-x Inv-loop μ-loop
+mul-x c = search needs
+
+element-copy-out-x : tie.Need-element-copy-out-x Inv-loop μ-loop
+element-copy-out-x c = let h = c .before .before .event .ensures .below in omega (arith, c .node-of .ensures)
+
+answer-requires : tie.Need-answer-requires Inv-loop μ-loop
+answer-requires c κs = search needs
 
 mul-put-reply : tie.Need-mul-put-reply Inv-loop μ-loop
-mul-put-reply c = search needs
+mul-put-reply c = let l = c .before .before .before .before .before .before .before .before .before .before in omega (arith, l .before .before .before .before .before .before .pre, l .loop .inv, c .before .before .before .before .before .before .before .before .before .loop-test .taken)
 
 put-reply-requires : tie.Need-put-reply-requires Inv-loop μ-loop
-put-reply-requires c κs = search needs
+put-reply-requires c κs = let l = c .before .before .before .before .before .before .before .before .before .before in omega (arith, l .before .before .before .before .before .before .pre, l .loop .inv, c .before .before .before .before .before .before .before .before .before .loop-test .taken)
 
-left-by-requires : tie.Need-left-by-requires Inv-loop μ-loop
-left-by-requires c κs = search needs
+enum-known-reply : tie.Need-enum-known-reply Inv-loop μ-loop
+enum-known-reply c = search needs
+
+enum-told : tie.Need-enum-told Inv-loop μ-loop
+enum-told c = search needs
 
 add-i : tie.Need-add-i Inv-loop μ-loop
-add-i c = search needs
+add-i c = let l = c .before .before .before .before .before .before .before .before .before .before .before .before .before .before in omega (arith, l .before .before .before .before .before .before .pre, l .loop .inv .0, c .before .before .before .before .before .before .before .before .before .before .before .before .before .loop-test .taken)
 
 loop-less : tie.Need-loop-less Inv-loop μ-loop
-loop-less c = search needs
+loop-less c = omega (arith, c .before .before .before .before .before .before .before .before .before .before .before .before .before .loop-test .taken)
 
 loop-again : tie.Need-loop-again Inv-loop μ-loop
 loop-again c =
-    let l = c .before .before .before .before .before .before .before .before in
-    let s = l .before .before .before in (
-      omega (arith, c .before .before .before .before .before .before .before .loop-test .taken),
+    let a = c .before .before .before .before .before in let l = a .before .before .before .before .before .before .before .before .before in
+    let s = l .before .before .before .before .before .before in
+    let is = ask.reply-is (s .args .t1) (s .pre .0) (l .before .children-of .ensures) (l .before .before .root .ensures) (a .before .before .before .before .before .event .ensures) (a .before .before .before .node-of .ensures) (a .before .before .before .before .draw-at .ensures) (a .answer .ensures) in (
+      omega (arith, a .before .before .before .before .before .before .before .before .loop-test .taken),
       c .before .before .before .put-reply .kept .0 ∙ l .loop .inv .1,
       (
-        law.sender-turn (s .args .tree) (s .args .s) (s .args .list .now) (l .loop .i) (22 * l .loop .i + 22 - 22 * l .loop .i) (omega arith) (l .loop .inv .2 .0) (c .before .before .before .before .before .event .ensures) (c .left-by .ensures),
-        law.replies-turn (s .args .tree) (s .args .s) (s .args .list .now) (l .loop .i) (22 * l .loop .i + 22 - 22 * l .loop .i) (omega arith) (l .loop .inv .2 .0) (c .before .before .before .before .before .event .ensures) (s .args .out .now) (l .loop .inv .2 .1) (c .before .before .before .put-reply .ensures),
+        law.sender-turn (s .args .t1) (s .args .s) (s .args .list .now) (l .loop .i) (22 * l .loop .i + 22 - 22 * l .loop .i) (omega arith) (l .loop .inv .2 .0) is
+            (⊎-elim (λ w. law.left-taken _ (w .1 .given .1) (w .4)) (λ w. law.left-refused _ (w .1 .given .1) (w .2)) (c .match .came)),
+        law.replies-turn (s .args .t1) (s .args .s) (s .args .list .now) (l .loop .i) (22 * l .loop .i + 22 - 22 * l .loop .i) (omega arith) (l .loop .inv .2 .0) is (s .args .out .now) (l .loop .inv .2 .1) (c .before .before .before .put-reply .ensures),
       ),
     )
 
@@ -70,8 +114,8 @@ same-length c = search needs
 
 returns : tie.Need-returns Inv-loop μ-loop
 returns c =
-    let s = c .before .before .before .before in
-    (law.sender-all (s .args .tree) (s .args .s) (s .args .list .now) (c .before .loop .i) _ (c .before .loop .inv .0) (c .loop-test .left) (c .before .loop .inv .2 .0), law.replies-all (s .args .tree) (s .args .s) (s .args .list .now) (s .args .out .now) (c .before .loop .i) _ (c .before .loop .inv .0) (c .loop-test .left) (c .before .loop .inv .2 .1))
+    let l = c .before in let s = l .before .before .before .before .before .before in
+    (law.sender-all (s .args .t1) (s .args .s) (s .args .list .now) (l .loop .i) _ (l .loop .inv .0) (c .loop-test .left) (l .loop .inv .2 .0), law.replies-all (s .args .t1) (s .args .s) (s .args .list .now) (s .args .out .now) (l .loop .i) _ (l .loop .inv .0) (c .loop-test .left) (l .loop .inv .2 .1))
 
 pub run-spec : {M : Type 1} → statement M
 run-spec =
@@ -79,16 +123,25 @@ run-spec =
     (tie.spec
     Inv-loop
     μ-loop
+    root-requires
+    children-of-requires
     loop-holds
     mul-at
-    add-event
-    sub-event
-    part-event-start
-    part-event-end
+    add-bytes
+    sub-bytes
+    part-bytes-start
+    part-bytes-end
     event-requires
+    draw-at-requires
+    node-of-requires
+    cast-node
+    mul-x
+    element-copy-out-x
+    answer-requires
     mul-put-reply
     put-reply-requires
-    left-by-requires
+    enum-known-reply
+    enum-told
     add-i
     loop-less
     loop-again

@@ -1,0 +1,23 @@
+-- `knellstone_answers` answers what the call that it makes answers. Assumes nothing.
+use borrow.Author.Needs.{needs}
+use mathlib.Core.Path.{ap, _∙_}
+use Rattle.host.specs.Answers.{answerOf}
+use Rattle.host.proofs.knellstone_answers.Statement.{statement}
+use Rattle.host.proofs.knellstone_answers.Tie as tie
+
+answers-requires : tie.Need-answers-requires
+answers-requires c κs = search needs
+
+answer-requires : tie.Need-answer-requires
+answer-requires c κs = search needs
+
+same-length : tie.Need-same-length
+same-length c = search needs
+
+returns : tie.Need-returns
+returns c =
+    let made = c .before .before .before .answers .ensures in
+    (c .answer .ensures ∙ ap answerOf (made .0), made .1)
+
+pub knellstone-answers-spec : {M : Type 1} → statement M
+knellstone-answers-spec = tie.close (tie.spec answers-requires answer-requires same-length returns)

@@ -1,0 +1,2 @@
+// The work behind the calls of a host. What these functions require, the calls have tested.
+pub mod rows;
