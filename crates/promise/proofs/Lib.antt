@@ -15,9 +15,6 @@ pub mod Questions
 pub mod StepsKeep
 pub mod Records
 pub mod Fitting
-pub mod Reading
-pub mod ReadTree
-pub mod ReadSettings
 pub mod Reload
 pub mod Runs
 pub mod SenderRender

@@ -2,16 +2,15 @@
 -- trainer writes it accepts. Assumes nothing.
 use mathlib.Core.Path.{_≡_, refl, sym, ap, subst, _∙_}
 use mathlib.Core.Bool.{Bool, true, false, cond}
-use mathlib.Core.List.{List, [], _∷_}
+use mathlib.Core.List.{List}
 use Prim.Native.Nat.{ℕ, _+_, _<_}
 use native.Mathlib.Omega.{arith}
-use borrow.Author.Tests.{eqb-true, ltb-true}
-use lib.Dec.{eqb, ltb}
+use borrow.Author.Tests.{ltb-true}
+use lib.Dec.{ltb}
 use Rattle.floats.proofs.Bits.{read-fits}
 use Rattle.rule_tree.specs.declared.Node.{Node}
 use Rattle.rule_tree.specs.Nodes.{noNode, nodeAt, nodeCount, parentWith, blankNode}
 use Rattle.rule_tree.proofs.Lists.{length-tabulate, getD-tabulate}
-use Rattle.rule_tree.proofs.Counting.{and-left, and-right}
 use Rattle.rule_tree.proofs.Links.{grown-leaf-valid}
 use Rattle.rule_tree.proofs.Plain.{ActionFits}
 use Rattle.trainer.specs.declared.Trainer.{Trainer}
@@ -19,29 +18,16 @@ use Rattle.trainer.specs.declared.Answered.{Answered}
 use Rattle.trainer.specs.State.{acceptedOf}
 use Rattle.trainer.specs.Phases.{taken, refuse}
 use Rattle.trainer.specs.Calls.{blankTrainer}
-use Rattle.record.specs.Bytes.{sameBytes}
 use Rattle.record.specs.Write.{recordOf}
 use Rattle.record.specs.Read.{actionAt, flagAt, linkOf, leafAtPlace, payloadPlace, nodeAtPlace, splitCount, readOf}
 use Rattle.record.specs.Calls.{lengthHolds, versionHolds, bodyHolds, loadOf}
+use Rattle.record.proofs.Loading.{body-same}
 use Rattle.promise.specs.Values.{FitAction}
 use Rattle.promise.proofs.Unembed.{TrainerFits, accepted-grown}
-use Rattle.promise.proofs.EveryTrainer.{valid-fits, none-fits, ends-fit, load-back}
-
-pub same-bytes : (xs ys : List ℕ) → sameBytes xs ys ≡ true → xs ≡ ys
-unfolding sameBytes
-same-bytes [] [] h = refl
-same-bytes [] (y ∷ ys) h = absurd (let z : _≡_ {A = ℕ} 0 1 = cc in omega arith)
-same-bytes (x ∷ xs) [] h = absurd (let z : _≡_ {A = ℕ} 0 1 = cc in omega arith)
-same-bytes (x ∷ xs) (y ∷ ys) h =
-    let e = eqb-true x y (and-left (eqb x y) _ h) in
-    let r = same-bytes xs ys (and-right (eqb x y) _ h) in
-    λ i. e i ∷ r i
+use Rattle.promise.proofs.Reload.{valid-fits, none-fits, ends-fit}
+use Rattle.promise.proofs.EveryTrainer.{load-back}
 
 -- ---- what a load that is not refused found
-held-parts : (bytes : List ℕ) → bodyHolds bytes ≡ true → (acceptedOf (readOf bytes) ≡ true) × (sameBytes (recordOf (readOf bytes)) bytes ≡ true)
-unfolding bodyHolds
-held-parts bytes h = (and-left (acceptedOf (readOf bytes)) _ h, and-right (acceptedOf (readOf bytes)) _ h)
-
 not-refused :
     (r : Trainer) (x y z : Bool)
     → cond x (cond y (cond z (taken r) (refuse 8 blankTrainer)) (refuse 7 blankTrainer)) (refuse 6 blankTrainer) .refused ≡ 0
@@ -110,17 +96,17 @@ module _ (bytes : List ℕ) (a : acceptedOf (readOf bytes) ≡ true) where
 -- ---- what a load accepts
 pub load-accepted : (bytes : List ℕ) → loadOf bytes .refused ≡ 0 → acceptedOf (loadOf bytes .trainer) ≡ true
 load-accepted bytes h =
-    let p = load-found bytes h in ap (λ (r : Answered). acceptedOf (r .trainer)) (p .1) ∙ held-parts bytes (p .0) .0
+    let p = load-found bytes h in ap (λ (r : Answered). acceptedOf (r .trainer)) (p .1) ∙ body-same bytes (p .0) .0
 
 pub load-typed : (bytes : List ℕ) → loadOf bytes .refused ≡ 0 → TrainerFits (loadOf bytes .trainer)
 load-typed bytes h =
     let p = load-found bytes h in
-    subst (λ (r : Answered). TrainerFits (r .trainer)) (sym (p .1)) (read-typed bytes (held-parts bytes (p .0) .0))
+    subst (λ (r : Answered). TrainerFits (r .trainer)) (sym (p .1)) (read-typed bytes (body-same bytes (p .0) .0))
 
 pub load-written : (bytes : List ℕ) → loadOf bytes .refused ≡ 0 → recordOf (loadOf bytes .trainer) ≡ bytes
 load-written bytes h =
     let p = load-found bytes h in
-    ap (λ (r : Answered). recordOf (r .trainer)) (p .1) ∙ same-bytes (recordOf (readOf bytes)) bytes (held-parts bytes (p .0) .1)
+    ap (λ (r : Answered). recordOf (r .trainer)) (p .1) ∙ body-same bytes (p .0) .1
 
 -- "the trainer that wrote it" is accepted
 pub written-loads : (t : Trainer) → acceptedOf t ≡ true → TrainerFits t → loadOf (recordOf t) .refused ≡ 0

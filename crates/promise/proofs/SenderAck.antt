@@ -19,15 +19,15 @@ use Rattle.sender.specs.declared.RepeatMode.the-variants.{Off, Always, Between}
 use Rattle.sender.specs.declared.Draw.{Draw}
 use Rattle.sender.specs.declared.Draw.the-variants.{Absent, Given}
 use Rattle.sender.specs.declared.Sender.{Sender}
+use Rattle.sender.specs.SenderCall.{SenderCall, ack, over}
 use Rattle.promise.specs.PlainTree.{Tree, Choice, nobody, leaf, ruleAt}
-use Rattle.promise.specs.PlainSender.{TakenAck, PlainSender, pendingNow, shown, leafAt, SenderCall, ack, Reaction, refuse, admitted, readAs, take, drawFor, lookUp, ackPoint, serve, react}
-use Rattle.promise.specs.SenderRuns as runs
+use Rattle.promise.specs.PlainSender.{TakenAck, PlainSender, pendingNow, shown, leafAt, Reaction, refuse, admitted, readAs, take, drawFor, lookUp, ackPoint, serve, react}
 use Rattle.promise.specs.SenderRuns.{SenderStep, senderStep, senderEnd, plainStart, plainSenderEnd, drawFails, SetBy, Outside, Undrawn, AckDoes}
 use Rattle.promise.proofs.Links.{no}
 use Rattle.promise.proofs.Embed.{embedTree, ValidTree}
 use Rattle.promise.proofs.SenderRender.{window-more, wait-more}
 use Rattle.promise.proofs.SenderLeaf.{leaf-inside, leaf-outside, reached}
-use Rattle.promise.proofs.SenderRun.{embedCall, embedCalls, Over, plainStep, call-step, sender-agrees}
+use Rattle.promise.proofs.SenderRun.{embedCalls, Over, plainStep, call-step, sender-agrees}
 
 abbrev inBox : Point → Bool
 inBox p = containsOf (rootOf usualEnds) p
@@ -169,17 +169,17 @@ module _ (s : PlainSender) (t : Tree) (sent received : Float) (draw : Draw) wher
         go false e = refl
 
 -- after any list of calls from any sender, by what the contracts say
-module _ (start : Sender) (cs : List SenderCall) (over : Over ValidTree cs) (t : Tree) (v : ValidTree t) (sent received : Float) (draw : Draw) where
+module _ (start : Sender) (cs : List (SenderCall Tree)) (over : Over ValidTree cs) (t : Tree) (v : ValidTree t) (sent received : Float) (draw : Draw) where
   abbrev pub before : PlainSender
   before = plainSenderEnd (plainStart start) cs
 
   abbrev pub ackStep : SenderStep
-  ackStep = senderStep (senderEnd start (embedCalls cs)) (runs.ack (embedTree t) sent received draw)
+  ackStep = senderStep (senderEnd start (embedCalls cs)) (ack (embedTree t) sent received draw)
 
   step-is : ackStep ≡ plainStep (react before (ack t sent received draw))
-  unfolding embedCall
+  unfolding over
   step-is =
-      ap (λ (x : Sender). senderStep x (runs.ack (embedTree t) sent received draw)) (sender-agrees start cs over .1)
+      ap (λ (x : Sender). senderStep x (ack (embedTree t) sent received draw)) (sender-agrees start cs over .1)
       ∙ call-step before (ack t sent received draw) v
 
   pub ack-does : admitted sent && admitted received ≡ true → AckDoes before t (ackPoint before (readAs sent) (readAs received)) draw ackStep

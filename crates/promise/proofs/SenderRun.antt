@@ -9,39 +9,35 @@ use borrow.Author.Tests.{eqb-true, eqb-false}
 use lib.Dec.{eqb}
 use Rattle.sender.specs.declared.Sender.{Sender}
 use Rattle.sender.specs.declared.Reply.the-variants.{Taken, Refused}
+use Rattle.sender.specs.SenderCall.{SenderCall, ack, send, tick, over}
 use Rattle.promise.specs.PlainTree.{Tree}
-use Rattle.promise.specs.PlainSender.{PlainSender, SenderCall, ack, send, tick, Reaction, refuse, react}
-use Rattle.promise.specs.SenderRuns as runs
+use Rattle.promise.specs.PlainSender.{PlainSender, Reaction, refuse, react}
+use Rattle.rule_tree.specs.declared.RuleTree.{RuleTree}
 use Rattle.promise.specs.SenderRuns.{SenderEvent, SenderStep, afterReply, taken, senderStep, senderEvents, senderEnd, plainStart, plainSenderEvents, plainSenderEnd}
 use Rattle.promise.proofs.Embed.{embedTree, ValidTree}
 use Rattle.promise.proofs.SenderRender.{render, start-renders}
 use Rattle.promise.proofs.SenderSteps.{heldOf, replyOf, ack-step, send-step, tick-step, refused-stays}
 
--- the call over the tree that a plain tree stands for
-unfoldable pub embedCall : SenderCall → runs.Call
-embedCall (ack t sent received draw) = runs.ack (embedTree t) sent received draw
-embedCall (send at) = runs.send at
-embedCall tick = runs.tick
-
-abbrev pub embedCalls : List SenderCall → List runs.Call
-embedCalls cs = map embedCall cs
+-- the calls over the trees that plain trees stand for
+abbrev pub embedCalls : List (SenderCall Tree) → List (SenderCall RuleTree)
+embedCalls cs = map (over embedTree) cs
 
 -- each ack is over a tree that has P
-abbrev pub AckOver : (Tree → Type 0) → SenderCall → Type 0
+abbrev pub AckOver : (Tree → Type 0) → SenderCall Tree → Type 0
 AckOver P (ack t sent received draw) = P t
 AckOver P (send at) = Unit {0}
 AckOver P tick = Unit {0}
 
-abbrev pub Over : (Tree → Type 0) → List SenderCall → Type 0
+abbrev pub Over : (Tree → Type 0) → List (SenderCall Tree) → Type 0
 Over P [] = Unit {0}
 Over P (c ∷ cs) = AckOver P c × Over P cs
 
-ack-over : (P Q : Tree → Type 0) → ((t : Tree) → P t → Q t) → (c : SenderCall) → AckOver P c → AckOver Q c
+ack-over : (P Q : Tree → Type 0) → ((t : Tree) → P t → Q t) → (c : SenderCall Tree) → AckOver P c → AckOver Q c
 ack-over P Q f (ack t sent received draw) h = f t h
 ack-over P Q f (send at) h = tt
 ack-over P Q f tick h = tt
 
-pub over-all : (P Q : Tree → Type 0) → ((t : Tree) → P t → Q t) → (cs : List SenderCall) → Over P cs → Over Q cs
+pub over-all : (P Q : Tree → Type 0) → ((t : Tree) → P t → Q t) → (cs : List (SenderCall Tree)) → Over P cs → Over Q cs
 over-all P Q f [] h = tt
 over-all P Q f (c ∷ cs) h = (ack-over P Q f c (h .0), over-all P Q f cs (h .1))
 
@@ -69,8 +65,8 @@ tick-taken : (s : PlainSender) → taken (heldOf (react s tick)) ≡ plainStep (
 unfolding react
 tick-taken s = refl
 
-pub call-step : (s : PlainSender) (c : SenderCall) → AckOver ValidTree c → senderStep (render s) (embedCall c) ≡ plainStep (react s c)
-unfolding senderStep embedCall
+pub call-step : (s : PlainSender) (c : SenderCall Tree) → AckOver ValidTree c → senderStep (render s) (over embedTree c) ≡ plainStep (react s c)
+unfolding senderStep over
 call-step s (ack t sent received draw) v =
     let c = ack t sent received draw in
     ap (afterReply (render s)) (ack-step t v s sent received draw) ∙ reply-step s (react s c) (refused-stays s c)
@@ -78,14 +74,14 @@ call-step s (send at) v = ap (afterReply (render s)) (send-step s at) ∙ reply-
 call-step s tick v = ap taken (tick-step s) ∙ tick-taken s
 
 -- ---- every list
-pub events-from : (cs : List SenderCall) → Over ValidTree cs → (s : PlainSender) → senderEvents (render s) (embedCalls cs) ≡ plainSenderEvents s cs
+pub events-from : (cs : List (SenderCall Tree)) → Over ValidTree cs → (s : PlainSender) → senderEvents (render s) (embedCalls cs) ≡ plainSenderEvents s cs
 unfolding senderEvents plainSenderEvents
 events-from [] v s = refl
 events-from (c ∷ cs) v s =
     ap (λ (o : SenderStep). o .event ∷ senderEvents (o .sender) (embedCalls cs)) (call-step s c (v .0))
     ∙ ap (λ (es : List SenderEvent). record { refused = react s c .refused; window = react s c .window } ∷ es) (events-from cs (v .1) (react s c .sender))
 
-pub end-from : (cs : List SenderCall) → Over ValidTree cs → (s : PlainSender) → senderEnd (render s) (embedCalls cs) ≡ render (plainSenderEnd s cs)
+pub end-from : (cs : List (SenderCall Tree)) → Over ValidTree cs → (s : PlainSender) → senderEnd (render s) (embedCalls cs) ≡ render (plainSenderEnd s cs)
 unfolding senderEnd plainSenderEnd
 end-from [] v s = refl
 end-from (c ∷ cs) v s =
@@ -93,7 +89,7 @@ end-from (c ∷ cs) v s =
 
 -- from any sender, "whose whole state is then the start"
 pub sender-agrees :
-    (s : Sender) (cs : List SenderCall) → Over ValidTree cs
+    (s : Sender) (cs : List (SenderCall Tree)) → Over ValidTree cs
     → (senderEvents s (embedCalls cs) ≡ plainSenderEvents (plainStart s) cs) × (senderEnd s (embedCalls cs) ≡ render (plainSenderEnd (plainStart s) cs))
 sender-agrees s cs v =
     subst (λ (x : Sender). (senderEvents x (embedCalls cs) ≡ plainSenderEvents (plainStart s) cs) × (senderEnd x (embedCalls cs) ≡ render (plainSenderEnd (plainStart s) cs)))

@@ -28,8 +28,9 @@ use Rattle.sender.specs.declared.Reply.the-variants.{Taken, Refused}
 use Rattle.sender.specs.declared.inner.acks.Drawn.the-variants.{Next, Missing}
 use Rattle.sender.specs.Acks.{settled, repeatNext, drawn, ackDrawn, ackWith, ackPending, ackAt, ackAdmitted}
 use Rattle.sender.specs.Sender.{ackOf, heldAs, sendAdmitted, sendOf, tickOf}
+use Rattle.sender.specs.SenderCall.{SenderCall, ack, send, tick}
 use Rattle.promise.specs.PlainTree.{Tree, Choice, nobody, leaf, ruleAt}
-use Rattle.promise.specs.PlainSender.{TakenAck, PlainSender, pendingNext, pendingNow, windowHeld, leafAt, SenderCall, ack, send, tick, Reaction, refuse, answered, admitted, readAs, take, drawFor, lookUp, ackPoint, serve, standWith, react}
+use Rattle.promise.specs.PlainSender.{TakenAck, PlainSender, pendingNext, pendingNow, windowHeld, leafAt, Reaction, refuse, answered, admitted, readAs, take, drawFor, lookUp, ackPoint, serve, standWith, react}
 use Rattle.promise.proofs.Embed.{embedTree, ValidTree}
 use Rattle.promise.proofs.TreeGrown.{grown-embeds}
 use Rattle.promise.proofs.SenderRender.{render, known, withAck, shown-same, repeat-same, point-renders, ack-renders}
@@ -189,7 +190,7 @@ unfolding serve
 stays-served s t (Repeat n a) sent received draw = stays-answered s _
 stays-served s t Idle sent received draw = stays-looked s t (leafAt t (ackPoint s sent received)) sent received draw
 
-pub refused-stays : (s : PlainSender) (c : SenderCall) → react s c .refused ≢ 0 → react s c ≡ refuse (react s c .refused) s
+pub refused-stays : (s : PlainSender) (c : SenderCall Tree) → react s c .refused ≢ 0 → react s c ≡ refuse (react s c .refused) s
 unfolding react
 refused-stays s (ack t sent received draw) =
     stays-cond s (admitted sent && admitted received) (serve s t (pendingNow s) (readAs sent) (readAs received) draw) (refuse 1 s)

@@ -22,15 +22,15 @@ use Rattle.rule_tree.proofs.Counting.{and-left, and-right}
 use Rattle.rule_tree_laws.proofs.Partition.{grown-one-leaf, grown-none, lookup-found, lookup-nothing}
 use Rattle.sender.specs.declared.Draw.{Draw}
 use Rattle.sender.specs.declared.Sender.{Sender}
+use Rattle.sender.specs.SenderCall.{SenderCall, ack, send, tick, over}
 use Rattle.promise.specs.PlainTree.{Tree}
-use Rattle.promise.specs.SenderRuns as runs
 use Rattle.promise.specs.SenderRuns.{senderEvents, plainStart, plainSenderEvents}
-use Rattle.promise.specs.Demand3.{InLeaf, InNoLeaf, Parted, SameTree, WayCall, ack, send, tick, callOver, plainCallOver, callsOver, plainCallsOver, senderBefore, oneMore, AckHolds}
+use Rattle.promise.specs.Demand3.{InLeaf, InNoLeaf, Parted, SameTree, callsOver, senderBefore, oneMore, AckHolds}
 use Rattle.promise.proofs.Embed.{embedTree, ValidTree, leaf-below, embed-length}
 use Rattle.promise.proofs.TreeGrown.{grown-embeds}
 use Rattle.promise.proofs.TreeKeeps.{leaf-embeds, leaf-node}
 use Rattle.promise.proofs.SenderLeaf.{usual-fits, cube-embeds}
-use Rattle.promise.proofs.SenderRun.{embedCall, embedCalls, AckOver, Over, sender-agrees}
+use Rattle.promise.proofs.SenderRun.{embedCalls, AckOver, Over, sender-agrees}
 use Rattle.promise.proofs.SenderAck.{ackStep, ack-does, ack-unread}
 
 -- ---- trees
@@ -77,38 +77,38 @@ tree-same t v =
 
 -- ---- senders, over trees that valid plain trees stand for
 module _ (trees : ℕ → RuleTree) (plains : ℕ → Tree) (alike : (k : ℕ) → trees k ≡ embedTree (plains k)) (valid : (k : ℕ) → ValidTree (plains k)) where
-  call-over : (w : WayCall) → AckOver ValidTree (plainCallOver plains w)
-  unfolding plainCallOver
+  call-over : (w : SenderCall ℕ) → AckOver ValidTree (over plains w)
+  unfolding over
   call-over (ack k sent received draw) = valid k
   call-over (send at) = tt
   call-over tick = tt
 
-  calls-over : (ws : List WayCall) → Over ValidTree (plainCallsOver plains ws)
+  calls-over : (ws : List (SenderCall ℕ)) → Over ValidTree (callsOver plains ws)
   calls-over [] = tt
   calls-over (w ∷ ws) = (call-over w, calls-over ws)
 
-  call-embeds : (w : WayCall) → callOver trees w ≡ embedCall (plainCallOver plains w)
-  unfolding callOver plainCallOver embedCall
-  call-embeds (ack k sent received draw) = ap (λ (t : RuleTree). runs.ack t sent received draw) (alike k)
+  call-embeds : (w : SenderCall ℕ) → over trees w ≡ over embedTree (over plains w)
+  unfolding over
+  call-embeds (ack k sent received draw) = ap (λ (t : RuleTree). ack t sent received draw) (alike k)
   call-embeds (send at) = refl
   call-embeds tick = refl
 
-  calls-embed : (ws : List WayCall) → callsOver trees ws ≡ embedCalls (plainCallsOver plains ws)
+  calls-embed : (ws : List (SenderCall ℕ)) → callsOver trees ws ≡ embedCalls (callsOver plains ws)
   calls-embed [] = refl
   calls-embed (w ∷ ws) = rw (call-embeds w, calls-embed ws)
 
-  pub way-events : (start : Sender) (ws : List WayCall) → senderEvents start (callsOver trees ws) ≡ plainSenderEvents (plainStart start) (plainCallsOver plains ws)
-  way-events start ws = ap (senderEvents start) (calls-embed ws) ∙ sender-agrees start (plainCallsOver plains ws) (calls-over ws) .0
+  pub way-events : (start : Sender) (ws : List (SenderCall ℕ)) → senderEvents start (callsOver trees ws) ≡ plainSenderEvents (plainStart start) (callsOver plains ws)
+  way-events start ws = ap (senderEvents start) (calls-embed ws) ∙ sender-agrees start (callsOver plains ws) (calls-over ws) .0
 
-  module _ (start : Sender) (ws : List WayCall) (k : ℕ) (sent received : Float) (draw : Draw) where
-    one-more : oneMore trees start ws (ack k sent received draw) ≡ ackStep start (plainCallsOver plains ws) (calls-over ws) (plains k) (valid k) sent received draw
-    unfolding callOver
+  module _ (start : Sender) (ws : List (SenderCall ℕ)) (k : ℕ) (sent received : Float) (draw : Draw) where
+    one-more : oneMore trees start ws (ack k sent received draw) ≡ ackStep start (callsOver plains ws) (calls-over ws) (plains k) (valid k) sent received draw
+    unfolding over
     one-more = rw (calls-embed ws, alike k)
 
     pub way-ack : AckHolds (senderBefore plains start ws) (plains k) sent received draw (oneMore trees start ws (ack k sent received draw))
     way-ack =
         subst (AckHolds (senderBefore plains start ws) (plains k) sent received draw) (sym one-more)
         (record {
-          unread = ack-unread start (plainCallsOver plains ws) (calls-over ws) (plains k) (valid k) sent received draw .1;
-          does = ack-does start (plainCallsOver plains ws) (calls-over ws) (plains k) (valid k) sent received draw;
+          unread = ack-unread start (callsOver plains ws) (calls-over ws) (plains k) (valid k) sent received draw .1;
+          does = ack-does start (callsOver plains ws) (calls-over ws) (plains k) (valid k) sent received draw;
         })

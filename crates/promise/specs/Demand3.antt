@@ -25,12 +25,11 @@ use Rattle.record.specs.Write.{recordOf}
 use Rattle.record.specs.Calls.{saveOf, bufferAfter, loadOf}
 use Rattle.sender.specs.declared.Draw.{Draw}
 use Rattle.sender.specs.declared.Sender.{Sender}
+use Rattle.sender.specs.SenderCall.{SenderCall, ack, over}
 use Rattle.promise.specs.PlainTree.{Tree, isLeaf, ruleAt}
 use Rattle.promise.specs.PlainTrainer as plain
-use Rattle.promise.specs.PlainSender.{PlainSender, SenderCall, cubeIn, admitted, readAs, ackPoint}
-use Rattle.promise.specs.PlainSender as sender
+use Rattle.promise.specs.PlainSender.{PlainSender, cubeIn, admitted, readAs, ackPoint}
 use Rattle.promise.specs.SenderRuns.{SenderStep, senderStep, senderEvents, senderEnd, plainStart, plainSenderEvents, plainSenderEnd, AckDoes}
-use Rattle.promise.specs.SenderRuns as runs
 
 -- ---- the trainer's calls, as their contracts have them
 pub record Step : Type 0 where
@@ -126,33 +125,15 @@ pub record SameTree (t : RuleTree) (u : Tree) : Type 0 where
   pub action : (i : ℕ) → isLeaf u i ≡ true → nodeAt (t .nodes) i .action ≡ ruleAt u i .action
 
 -- ---- a sender's calls: "Each ack is over any one of those trees", which it names by its place on the way
-pub data WayCall : Type 0 where
-  ack : ℕ → Float → Float → Draw → WayCall
-  send : Float → WayCall
-  tick : WayCall
-
-unfoldable pub callOver : (ℕ → RuleTree) → WayCall → runs.Call
-callOver trees (ack k sent received draw) = runs.ack (trees k) sent received draw
-callOver trees (send at) = runs.send at
-callOver trees tick = runs.tick
-
-unfoldable pub plainCallOver : (ℕ → Tree) → WayCall → SenderCall
-plainCallOver trees (ack k sent received draw) = sender.ack (trees k) sent received draw
-plainCallOver trees (send at) = sender.send at
-plainCallOver trees tick = sender.tick
-
-abbrev pub callsOver : (ℕ → RuleTree) → List WayCall → List runs.Call
-callsOver trees ws = map (callOver trees) ws
-
-abbrev pub plainCallsOver : (ℕ → Tree) → List WayCall → List SenderCall
-plainCallsOver trees ws = map (plainCallOver trees) ws
+abbrev pub callsOver : {T : Type 0} → (ℕ → T) → List (SenderCall ℕ) → List (SenderCall T)
+callsOver trees ws = map (over trees) ws
 
 -- the plain sender after the calls ws, and what one more call does then
-abbrev pub senderBefore : (ℕ → Tree) → Sender → List WayCall → PlainSender
-senderBefore trees start ws = plainSenderEnd (plainStart start) (plainCallsOver trees ws)
+abbrev pub senderBefore : (ℕ → Tree) → Sender → List (SenderCall ℕ) → PlainSender
+senderBefore trees start ws = plainSenderEnd (plainStart start) (callsOver trees ws)
 
-abbrev pub oneMore : (ℕ → RuleTree) → Sender → List WayCall → WayCall → SenderStep
-oneMore trees start ws w = senderStep (senderEnd start (callsOver trees ws)) (callOver trees w)
+abbrev pub oneMore : (ℕ → RuleTree) → Sender → List (SenderCall ℕ) → SenderCall ℕ → SenderStep
+oneMore trees start ws w = senderStep (senderEnd start (callsOver trees ws)) (over trees w)
 
 -- what is claimed of an ack over the tree t, s being the plain sender before it and o what it does
 pub record AckHolds (s : PlainSender) (t : Tree) (sent received : Float) (draw : Draw) (o : SenderStep) : Type 0 where
@@ -168,9 +149,9 @@ pub record Demand3 (s : Settings) (cs : List plain.Call) : Type 0 where
   pub trees : (k : ℕ) (p : Point) → Parted (treeAfter s cs k) p
   pub same : (k : ℕ) → SameTree (treeAfter s cs k) (plainTreeAfter s cs k)
   pub senders :
-      (start : Sender) (ws : List WayCall)
-      → senderEvents start (callsOver (treeAfter s cs) ws) ≡ plainSenderEvents (plainStart start) (plainCallsOver (plainTreeAfter s cs) ws)
+      (start : Sender) (ws : List (SenderCall ℕ))
+      → senderEvents start (callsOver (treeAfter s cs) ws) ≡ plainSenderEvents (plainStart start) (callsOver (plainTreeAfter s cs) ws)
   pub acks :
-      (start : Sender) (ws : List WayCall) (k : ℕ) (sent received : Float) (draw : Draw)
+      (start : Sender) (ws : List (SenderCall ℕ)) (k : ℕ) (sent received : Float) (draw : Draw)
       → AckHolds (senderBefore (plainTreeAfter s cs) start ws) (plainTreeAfter s cs k) sent received draw
       (oneMore (treeAfter s cs) start ws (ack k sent received draw))

@@ -28,6 +28,7 @@ use Rattle.sender.specs.declared.RepeatMode.the-variants.{Off, Always, Between}
 use Rattle.sender.specs.declared.Draw.{Draw}
 use Rattle.sender.specs.declared.Draw.the-variants.{Absent, Given}
 use Rattle.sender.specs.declared.Sender.{Sender}
+use Rattle.sender.specs.SenderCall.{SenderCall, ack, send, tick}
 use Rattle.promise.specs.PlainTree.{Tree, Choice, nobody, leaf, leaves, ruleAt}
 
 -- "the taken acks (those not refused)": the two moments, the action that it was served by, and what a draw left pending
@@ -130,11 +131,6 @@ abbrev pub leafAt : Tree → Point → Choice
 leafAt t p = holding t p (leaves t)
 
 -- ---- calls
-pub data SenderCall : Type 0 where
-  ack : Tree → Float → Float → Draw → SenderCall
-  send : Float → SenderCall
-  tick : SenderCall
-
 -- a refusal's number or 0, and the window that is handed back
 pub record Reaction : Type 0 where
   pub sender : PlainSender
@@ -193,7 +189,7 @@ abbrev pub standWith : PlainSender → Moment → PlainSender
 standWith s m = record { start = s .start; history = s .history; standing = m }
 
 -- 1, 22, 5
-unfoldable pub react : PlainSender → SenderCall → Reaction
+unfoldable pub react : PlainSender → SenderCall Tree → Reaction
 unfolding serve
 react s (ack t sent received draw) =
     cond (admitted sent && admitted received) (serve s t (pendingNow s) (readAs sent) (readAs received) draw) (refuse 1 s)

@@ -20,6 +20,7 @@ use Rattle.sender.specs.declared.Held.{Held}
 use Rattle.sender.specs.declared.Reply.{Reply}
 use Rattle.sender.specs.declared.Reply.the-variants as reply
 use Rattle.sender.specs.Sender.{ackOf, sendOf, tickOf}
+use Rattle.sender.specs.SenderCall.{SenderCall, ack, send, tick}
 use Rattle.promise.specs.PlainTree.{Tree, isLeaf, ruleAt}
 use Rattle.promise.specs.PlainSender as plain
 
@@ -29,11 +30,6 @@ pub record SenderEvent : Type 0 where
   pub window : ℕ
 
 -- ---- the sender's calls, as their contracts have them
-pub data Call : Type 0 where
-  ack : RuleTree → Float → Float → Draw → Call
-  send : Float → Call
-  tick : Call
-
 pub record SenderStep : Type 0 where
   pub sender : Sender
   pub event : SenderEvent
@@ -46,18 +42,18 @@ unfoldable pub afterReply : Sender → Reply → SenderStep
 afterReply s (reply.Taken h) = taken h
 afterReply s (reply.Refused k) = record { sender = s; event = record { refused = k; window = 0 } }
 
-unfoldable pub senderStep : Sender → Call → SenderStep
+unfoldable pub senderStep : Sender → SenderCall RuleTree → SenderStep
 unfolding afterReply
 senderStep s (ack t sent received draw) = afterReply s (ackOf t s sent received draw)
 senderStep s (send at) = afterReply s (sendOf s at)
 senderStep s tick = taken (tickOf s)
 
-unfoldable pub senderEvents : Sender → List Call → List SenderEvent
+unfoldable pub senderEvents : Sender → List (SenderCall RuleTree) → List SenderEvent
 unfolding senderStep
 senderEvents s [] = []
 senderEvents s (c ∷ cs) = let o = senderStep s c in o .event ∷ senderEvents (o .sender) cs
 
-unfoldable pub senderEnd : Sender → List Call → Sender
+unfoldable pub senderEnd : Sender → List (SenderCall RuleTree) → Sender
 unfolding senderStep
 senderEnd s [] = s
 senderEnd s (c ∷ cs) = senderEnd (senderStep s c .sender) cs
@@ -67,13 +63,13 @@ senderEnd s (c ∷ cs) = senderEnd (senderStep s c .sender) cs
 abbrev pub plainStart : Sender → plain.PlainSender
 plainStart s = record { start = s; history = []; standing = s .«last_send» }
 
-unfoldable pub plainSenderEvents : plain.PlainSender → List plain.SenderCall → List SenderEvent
+unfoldable pub plainSenderEvents : plain.PlainSender → List (SenderCall Tree) → List SenderEvent
 plainSenderEvents s [] = []
 plainSenderEvents s (c ∷ cs) =
     let o = plain.react s c in
     record { refused = o .refused; window = o .window } ∷ plainSenderEvents (o .sender) cs
 
-unfoldable pub plainSenderEnd : plain.PlainSender → List plain.SenderCall → plain.PlainSender
+unfoldable pub plainSenderEnd : plain.PlainSender → List (SenderCall Tree) → plain.PlainSender
 plainSenderEnd s [] = s
 plainSenderEnd s (c ∷ cs) = plainSenderEnd (plain.react s c .sender) cs
 

@@ -96,7 +96,7 @@ module _ (t : Trainer) (f : TrainerFits t) (a : acceptedOf t ≡ true) where
   load-saved = sym (load-taken (recordOf t) written-length written-version written-body) ∙ ap taken (read-back t f g)
 
 -- ---- what is taken is written again as the same bytes
-body-same : (bytes : List ℕ) → bodyHolds bytes ≡ true → (acceptedOf (readOf bytes) ≡ true) × (recordOf (readOf bytes) ≡ bytes)
+pub body-same : (bytes : List ℕ) → bodyHolds bytes ≡ true → (acceptedOf (readOf bytes) ≡ true) × (recordOf (readOf bytes) ≡ bytes)
 unfolding bodyHolds
 body-same bytes h = (
   and-l (acceptedOf (readOf bytes)) (sameBytes (recordOf (readOf bytes)) bytes) h,

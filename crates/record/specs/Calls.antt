@@ -1,9 +1,10 @@
 -- What save and load answer, refusals first and in 01's order.
 use mathlib.Core.Bool.{Bool, true, false, not, _&&_, _||_, cond}
-use mathlib.Core.List.{List, _++_}
+use mathlib.Core.List.{List, [], _∷_, _++_}
 use Prim.Native.Nat.{ℕ, _+_, _-_}
 use lib.ListN.{length, drop, getD}
 use lib.Dec.{eqb, ltb, leb}
+use Rattle.quantities.specs.Guards.{test, guarded}
 use Rattle.trainer.specs.declared.Trainer.{Trainer}
 use Rattle.trainer.specs.declared.Answered.{Answered}
 use Rattle.trainer.specs.State.{acceptedOf}
@@ -18,7 +19,7 @@ use Rattle.record.specs.Read.{readOf}
 -- save: 10, 9
 unfoldable pub saveOf : Trainer → List ℕ → Saved
 saveOf t buf =
-    cond (acceptedOf t) (cond (leb (length (recordOf t)) (length buf)) (Size (length (recordOf t))) (Refused 9)) (Refused 10)
+    guarded (test (acceptedOf t) 10 ∷ test (leb (length (recordOf t)) (length buf)) 9 ∷ []) Refused (Size (length (recordOf t)))
 
 -- "Writing answers the size and changes no byte past it"; a refused save changes none
 unfoldable pub bufferAfter : Trainer → List ℕ → Saved → List ℕ
@@ -42,6 +43,5 @@ bodyHolds bytes = acceptedOf (readOf bytes) && sameBytes (recordOf (readOf bytes
 unfoldable pub loadOf : List ℕ → Answered
 unfolding lengthHolds versionHolds bodyHolds
 loadOf bytes =
-    cond (lengthHolds bytes)
-    (cond (versionHolds bytes) (cond (bodyHolds bytes) (taken (readOf bytes)) (refuse 8 blankTrainer)) (refuse 7 blankTrainer))
-    (refuse 6 blankTrainer)
+    guarded (test (lengthHolds bytes) 6 ∷ test (versionHolds bytes) 7 ∷ test (bodyHolds bytes) 8 ∷ [])
+    (λ k. refuse k blankTrainer) (taken (readOf bytes))

@@ -31,7 +31,8 @@ use Rattle.sender.specs.Sender.{ackOf}
 use Rattle.sender.specs.Face.{windowFrom}
 use Rattle.sender.specs.Run.{leftBy}
 use Rattle.refusals.specs.Told.{Told, none, value, replyTold, answerTold}
-use Rattle.refusals.specs.Order.{firstOf, passes, repeats, drawHolds, ackPoint, ackOrder}
+use Rattle.quantities.specs.Guards.{firstOf}
+use Rattle.refusals.specs.Order.{passes, repeats, drawHolds, ackPoint, ackOrder}
 use Rattle.refusals.specs.Gives.{ackGives, actionUsed, ackWindow}
 use Rattle.refusals.proofs.Ways.{Gives, both}
 use Rattle.refusals.proofs.SendersKept.{face-told}

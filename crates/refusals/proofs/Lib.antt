@@ -1,16 +1,11 @@
 pub mod Ways
 pub mod Trees
-pub mod TreesKept
-pub mod Choices
-pub mod Views
 pub mod Records
 pub mod Trainers
 pub mod TrainersKept
 pub mod Senders
 pub mod SendersKept
 pub mod Panels
-pub mod TreesGive
-pub mod CountsGive
 pub mod TrainersGive
 pub mod PanelsGive
 pub mod SendersGive

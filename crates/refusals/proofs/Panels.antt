@@ -22,7 +22,8 @@ use Rattle.panel_lines.specs.declared.Shown.the-variants.{Size, Refused}
 use Rattle.panel_lines.specs.Panel.{linesOf, recordPart, countsPart, countsIn, startHolds, countsShown, recordShown, panelOf, outAfter}
 use Rattle.panel_lines.proofs.Ways.{start-fits}
 use Rattle.refusals.specs.Told.{shownTold}
-use Rattle.refusals.specs.Order.{firstOf, panelOrder}
+use Rattle.quantities.specs.Guards.{firstOf}
+use Rattle.refusals.specs.Order.{panelOrder}
 use Rattle.refusals.proofs.Ways.{next}
 
 abbrev shows : Shown → ℕ

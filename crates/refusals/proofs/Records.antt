@@ -12,7 +12,8 @@ use Rattle.record.specs.declared.Saved.the-variants.{Size, Refused}
 use Rattle.record.specs.Write.{recordOf}
 use Rattle.record.specs.Calls.{saveOf, bufferAfter, lengthHolds, versionHolds, bodyHolds, loadOf}
 use Rattle.refusals.specs.Told.{savedTold}
-use Rattle.refusals.specs.Order.{firstOf, saveOrder, loadOrder}
+use Rattle.quantities.specs.Guards.{firstOf}
+use Rattle.refusals.specs.Order.{saveOrder, loadOrder}
 use Rattle.refusals.proofs.Ways.{next}
 
 abbrev saves : Saved → ℕ

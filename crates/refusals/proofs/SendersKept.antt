@@ -11,7 +11,8 @@ use Rattle.sender.specs.Sender.{ackOf, sendOf}
 use Rattle.sender.specs.Face.{windowFrom, senderFrom}
 use Rattle.sender.specs.Run.{leftBy}
 use Rattle.refusals.specs.Told.{Told, replyTold, answerTold}
-use Rattle.refusals.specs.Order.{firstOf, ackOrder, sendOrder}
+use Rattle.quantities.specs.Guards.{firstOf}
+use Rattle.refusals.specs.Order.{ackOrder, sendOrder}
 use Rattle.refusals.proofs.Senders.{send-number, ack-number}
 
 left-keeps : (s : Sender) (r : Reply) → (replyTold r .number ≡ 0 → ⊥) → leftBy s r ≡ s

@@ -21,7 +21,8 @@ use Rattle.trainer.specs.State.{acceptedOf}
 use Rattle.trainer.specs.Phases.{phase1, phase2}
 use Rattle.trainer.specs.Calls.{startOf, askedOf, questionOf, wantsCounts, wantsScore, countsStep, answerCountsOf, answerScoreOf}
 use Rattle.refusals.specs.Told.{candidateTold, questionTold}
-use Rattle.refusals.specs.Order.{firstOf, startOrder, questionOrder, splitsOn, answerCountsOrder, answerScoreOrder, candidateOrder}
+use Rattle.quantities.specs.Guards.{firstOf}
+use Rattle.refusals.specs.Order.{startOrder, questionOrder, splitsOn, answerCountsOrder, answerScoreOrder, candidateOrder}
 use Rattle.refusals.proofs.Ways.{either, next}
 
 abbrev answers : Answered → ℕ

@@ -22,7 +22,8 @@ use Rattle.record.specs.declared.Saved.{Saved}
 use Rattle.record.specs.Write.{recordOf}
 use Rattle.record.specs.Calls.{saveOf}
 use Rattle.refusals.specs.Told.{none, value, counts, score, done, candidateTold, questionTold, savedTold}
-use Rattle.refusals.specs.Order.{firstOf, passes, questionOrder, candidateOrder, saveOrder}
+use Rattle.quantities.specs.Guards.{firstOf}
+use Rattle.refusals.specs.Order.{passes, questionOrder, candidateOrder, saveOrder}
 use Rattle.refusals.specs.Gives.{questionGives, candidateGives, saveGives}
 use Rattle.refusals.proofs.Ways.{Gives, both}
 

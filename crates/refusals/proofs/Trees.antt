@@ -1,115 +1,149 @@
--- The calls on a tree refuse by the first test that fails. Assumes nothing.
-use mathlib.Core.Path.{_≡_, refl}
-use mathlib.Core.Bool.{Bool, true, false, not, _&&_, cond}
+-- Each call on a tree is refused by the first test that fails, and else gives what 01 says. Assumes nothing.
+use mathlib.Core.Path.{_≡_, refl, sym, ap}
+use mathlib.Core.Bool.{Bool, true, false, cond}
 use mathlib.Core.List.{List}
-use Prim.Native.Nat.{ℕ}
-use lib.Dec.{eqb, ltb}
+use Prim.Native.Nat.{ℕ, zero, suc, _<_}
+use native.Mathlib.Omega.{arith}
+use borrow.Author.Tests.{eqb-true, eqb-false}
+use lib.ListN.{length, getD}
+use lib.Dec.{eqb, leb}
+use Rattle.quantities.specs.Guards.{guarded}
 use Rattle.remy.specs.declared.action.Action.{Action}
 use Rattle.remy.specs.declared.point.Point.{Point}
-use Rattle.remy.specs.Action.{validOf}
-use Rattle.remy.specs.Cube.{rootOf, containsOf}
+use Rattle.remy.specs.Cube.{rootOf, containsOf, usualEnds}
+use Rattle.rule_tree.specs.declared.Node.{Node}
 use Rattle.rule_tree.specs.declared.RuleTree.{RuleTree}
 use Rattle.rule_tree.specs.declared.AugmentedRuleTree.{AugmentedRuleTree}
-use Rattle.rule_tree.specs.declared.Changed.{Changed}
 use Rattle.rule_tree.specs.declared.Looked.{Looked}
-use Rattle.rule_tree.specs.declared.Domain.{Domain}
+use Rattle.rule_tree.specs.declared.Looked.the-variants as looked
+use Rattle.rule_tree.specs.declared.Domain.the-variants as domain
 use Rattle.rule_tree.specs.declared.Tallied.{Tallied}
 use Rattle.rule_tree.specs.declared.Tallied.the-variants as tallied
-use Rattle.rule_tree.specs.declared.Number.{Number}
+use Rattle.rule_tree.specs.declared.Chosen.{Chosen}
+use Rattle.rule_tree.specs.declared.Chosen.the-variants as chosen
+use Rattle.rule_tree.specs.declared.Number.the-variants as numbers
 use Rattle.rule_tree.specs.declared.Compared.the-variants as compared
-use Rattle.rule_tree.specs.Lists.{total}
-use Rattle.rule_tree.specs.Nodes.{nodeCount}
+use Rattle.rule_tree.specs.Nodes.{nodeAt, childrenOf}
 use Rattle.rule_tree.specs.Grown.{grownOf}
-use Rattle.rule_tree.specs.Walk.{leafOf}
-use Rattle.rule_tree.specs.Change.{withAction}
-use Rattle.rule_tree.specs.Equal.{treesEqual}
-use Rattle.rule_tree.specs.Counts.{limit, countsHold}
-use Rattle.rule_tree.specs.Calls.{leafIn, newOf, domainOf, foundIn, lookupOf, replacedOf, tallyOf, setOf, markOf, clearOf, splitOf, parentsOf, usedOf, equalOf}
-use Rattle.refusals.specs.Told.{lookedTold, domainTold, talliedTold, numberTold, comparedTold}
-use Rattle.refusals.specs.Order.{firstOf, newOrder, domainOrder, lookupOrder, replacedOrder, tallyOrder, setOrder, markOrder, clearOrder, splitOrder, parentsOrder, countedOrder, equalOrder}
-use Rattle.refusals.proofs.Ways.{either, next}
+use Rattle.rule_tree.specs.Walk.{leafOf, walkOf}
+use Rattle.rule_tree.specs.Counts.{eligible, better, mostUsed}
+use Rattle.rule_tree.specs.Change.{freshTree, withAction, withMark, withoutMarks, splitAt}
+use Rattle.rule_tree.specs.Calls.{refuse, taken, blankTree, leafIn, newOf, setOf, markOf, clearOf, splitOf, domainOf, foundIn, lookupOf, replacedOf, tallyOf, countedIn, parentsOf, usedOf, mostUsedOf, equalOf}
+use Rattle.rule_tree.proofs.GrownTree.{grown-facts, grown-long, leaf-below}
+use Rattle.rule_tree.proofs.Looking.{replaced-same, replaced-other}
+use Rattle.rule_tree_view.specs.View.{viewedTree, viewOf}
+use Rattle.refusals.specs.Told.{Given, none, value, Told, told, refusedWith, lookedTold, domainTold, talliedTold, chosenTold, numberTold, comparedTold}
+use Rattle.refusals.specs.Order.{newOrder, setOrder, markOrder, clearOrder, splitOrder, domainOrder, lookupOrder, replacedOrder, viewOrder, tallyOrder, parentsOrder, countedOrder, equalOrder}
+use Rattle.refusals.specs.Gives.{domainGives, lookupGives, replacedGives, viewGives, tallyGives, parentsGives, usedGives, nodeFrom, mostUsedGives, equalGives}
+use Rattle.refusals.proofs.Ways.{either, both, tells}
 
--- ---- the numbers
-abbrev refusedBy : Changed → ℕ
-refusedBy r = r .refused
+-- ---- calls that hand back a tree: refused by the first test that fails, with the tree that came
+pub new-order : (a : Action) → newOf a ≡ guarded (newOrder a) (λ k. refuse k blankTree) (taken (freshTree usualEnds a))
+unfolding newOf
+new-order a = refl
 
-abbrev looks : Looked → ℕ
-looks r = lookedTold r .number
+pub set-order : (t : RuleTree) (i : ℕ) (a : Action) → setOf t i a ≡ guarded (setOrder t i a) (λ k. refuse k t) (taken (withAction t i a))
+unfolding setOf
+set-order t i a = refl
 
-abbrev tallies : Tallied → ℕ
-tallies r = talliedTold r .number
+pub mark-order : (t : RuleTree) (i : ℕ) → markOf t i ≡ guarded (markOrder t i) (λ k. refuse k t) (taken (withMark t i))
+unfolding markOf
+mark-order t i = refl
 
-abbrev counts : Number → ℕ
-counts r = numberTold r .number
+pub clear-order : (t : RuleTree) → clearOf t ≡ guarded (clearOrder t) (λ k. refuse k t) (taken (withoutMarks t))
+unfolding clearOf
+clear-order t = refl
 
-pub new-number : (a : Action) → newOf a .refused ≡ firstOf (newOrder a)
-unfolding newOf firstOf
-new-number a = next refusedBy (validOf a) refl refl
+pub split-order : (t : RuleTree) (i : ℕ) → splitOf t i ≡ guarded (splitOrder t i) (λ k. refuse k t) (taken (splitAt t i))
+unfolding splitOf
+split-order t i = refl
 
-pub domain-number : (t : RuleTree) (i : ℕ) → domainTold (domainOf t i) .number ≡ firstOf (domainOrder t i)
-unfolding domainOf domainTold firstOf
-domain-number t i =
-    next (λ (r : Domain). domainTold r .number) (grownOf t)
-    (next (λ (r : Domain). domainTold r .number) (ltb i (nodeCount (t .splits))) refl refl) refl
+-- ---- calls that answer by an enum
+pub domain-told : (t : RuleTree) (i : ℕ) → domainTold (domainOf t i) ≡ guarded (domainOrder t i) refusedWith (told (domainGives t i))
+unfolding domainOf domainTold
+domain-told t i = tells domainTold domain.Refused _ (domainOrder t i) (λ k. refl) (λ h. refl)
 
--- in a grown tree a lookup is not refused
-found-number : (t : RuleTree) (p : Point) → lookedTold (foundIn t p) .number ≡ 0
+-- ---- lookups
+found-told : (t : RuleTree) (p : Point) → lookedTold (foundIn t p) ≡ told (lookupGives t p)
 unfolding foundIn lookedTold
-found-number t p = either (λ (r : Looked). looks r ≡ 0) (containsOf (rootOf (t .ends)) p) refl refl
+found-told t p = both (λ (r : Looked) (v : Given Action). lookedTold r ≡ told v) (containsOf (rootOf (t .ends)) p) refl refl
 
-pub lookup-number : (t : RuleTree) (p : Point) → lookedTold (lookupOf t p) .number ≡ firstOf (lookupOrder t)
-unfolding lookupOf lookedTold firstOf
-lookup-number t p = next looks (grownOf t) (found-number t p) refl
+pub lookup-told : (t : RuleTree) (p : Point) → lookedTold (lookupOf t p) ≡ guarded (lookupOrder t) refusedWith (told (lookupGives t p))
+unfolding lookupOf lookedTold
+lookup-told t p = tells lookedTold looked.Refused _ (lookupOrder t) (λ k. refl) (λ h. found-told t p)
 
-pub replaced-number : (a : AugmentedRuleTree) (p : Point) → lookedTold (replacedOf a p) .number ≡ firstOf (replacedOrder a)
-unfolding replacedOf lookedTold firstOf
-replaced-number a p =
-    next looks (grownOf (a .tree))
-    (next looks (leafIn (a .tree) (a .leaf))
-    (next looks (validOf (a .action)) (found-number (withAction (a .tree) (a .leaf) (a .action)) p) refl) refl) refl
+-- in a tree with one leaf's action replaced: that action at the leaf, elsewhere the leaf's own
+module _ (t : RuleTree) (leaf : ℕ) (a : Action) (p : Point) (l : leaf < length (t .nodes)) where
+  replaced-in : (b : Bool) → containsOf (rootOf (t .ends)) p ≡ b → (z : Bool) → eqb (leafOf t p) leaf ≡ z
+      → lookedTold (foundIn (withAction t leaf a) p) ≡ told (cond b (value (cond z a (nodeAt (t .nodes) (leafOf t p) .action))) none)
+  unfolding lookedTold foundIn
+  replaced-in true h true e = ap lookedTold (sym (replaced-same t leaf a p (walkOf (childrenOf (t .nodes)) (rootOf (t .ends)) p) h refl l (eqb-true (leafOf t p) leaf e)))
+  replaced-in true h false e = ap lookedTold (sym (replaced-other t leaf a p (walkOf (childrenOf (t .nodes)) (rootOf (t .ends)) p) h refl (eqb-false (leafOf t p) leaf e)))
+  replaced-in false h z e = rw h
 
-pub tally-number : (t : RuleTree) (xs : List ℕ) (p : Point) → talliedTold (tallyOf t xs p) .number ≡ firstOf (tallyOrder t xs p)
-unfolding tallyOf talliedTold firstOf
-tally-number t xs p =
-    next tallies (grownOf t) (next tallies (countsHold t xs) (go (containsOf (rootOf (t .ends)) p) (eqb (total xs) limit) (leafOf t p)) refl) refl
-  where
-    go :
-        (inside full : Bool) (i : ℕ)
-        → talliedTold (cond inside (cond full (tallied.Refused 23) (tallied.Counted i)) tallied.Nothing) .number ≡ cond (not (inside && full)) 0 23
-    go true true i = refl
-    go true false i = refl
-    go false full i = refl
+leaf-inside : (t : RuleTree) (i : ℕ) → grownOf t ≡ true → leafIn t i ≡ true → i < length (t .nodes)
+leaf-inside t i g l = let f = grown-facts t g in omega (arith, f .few, grown-long t f, leaf-below t i l)
 
-pub set-number : (t : RuleTree) (i : ℕ) (a : Action) → setOf t i a .refused ≡ firstOf (setOrder t i a)
-unfolding setOf firstOf
-set-number t i a = next refusedBy (grownOf t) (next refusedBy (leafIn t i) (next refusedBy (validOf a) refl refl) refl) refl
+pub replaced-told : (a : AugmentedRuleTree) (p : Point) → lookedTold (replacedOf a p) ≡ guarded (replacedOrder a) refusedWith (told (replacedGives a p))
+unfolding replacedOf lookedTold
+replaced-told a p =
+    tells lookedTold looked.Refused _ (replacedOrder a) (λ k. refl)
+    (λ h. replaced-in (a .tree) (a .leaf) (a .action) p (leaf-inside (a .tree) (a .leaf) (h .0) (h .1 .0)) _ refl _ refl)
 
-pub mark-number : (t : RuleTree) (i : ℕ) → markOf t i .refused ≡ firstOf (markOrder t i)
-unfolding markOf firstOf
-mark-number t i = next refusedBy (grownOf t) (next refusedBy (leafIn t i) refl refl) refl
+pub view-told :
+    (nodes : List Node) (leaf : ℕ) (a : Action) (p : Point)
+    → lookedTold (viewOf nodes leaf a p) ≡ guarded (viewOrder nodes leaf a) refusedWith (told (viewGives nodes leaf a p))
+unfolding viewOf lookedTold
+view-told nodes leaf a p =
+    both (λ (r : Looked) (v : Told Action). lookedTold r ≡ v) (eqb (length nodes) 513)
+    (replaced-told (record { tree = viewedTree nodes; leaf = leaf; action = a }) p) refl
 
-pub clear-number : (t : RuleTree) → clearOf t .refused ≡ firstOf (clearOrder t)
-unfolding clearOf firstOf
-clear-number t = next refusedBy (grownOf t) refl refl
+-- ---- counts
+pub tally-told : (t : RuleTree) (xs : List ℕ) (p : Point) → talliedTold (tallyOf t xs p) ≡ guarded (tallyOrder t xs p) refusedWith (told (tallyGives t p))
+unfolding tallyOf talliedTold
+tally-told t xs p =
+    tells talliedTold tallied.Refused _ (tallyOrder t xs p) (λ k. refl)
+    (λ h. both (λ (r : Tallied) (v : Given ℕ). talliedTold r ≡ told v) (containsOf (rootOf (t .ends)) p) refl refl)
 
-pub split-number : (t : RuleTree) (i : ℕ) → splitOf t i .refused ≡ firstOf (splitOrder t i)
-unfolding splitOf firstOf
-split-number t i = next refusedBy (grownOf t) (next refusedBy (leafIn t i) (next refusedBy (ltb (t .splits) 64) refl refl) refl) refl
+-- a refused tally leaves the lent list
+pub tally-keeps : (xs : List ℕ) (r : Tallied) → (talliedTold r .number ≡ 0 → ⊥) → countedIn xs r ≡ xs
+unfolding talliedTold countedIn
+tally-keeps xs (tallied.Counted i) n = absurd (n refl)
+tally-keeps xs tallied.Nothing n = refl
+tally-keeps xs (tallied.Refused k) n = refl
 
-pub parents-number : (t : RuleTree) → numberTold (parentsOf t) .number ≡ firstOf (parentsOrder t)
-unfolding parentsOf numberTold firstOf
-parents-number t = next counts (grownOf t) refl refl
+pub parents-told : (t : RuleTree) → numberTold (parentsOf t) ≡ guarded (parentsOrder t) refusedWith (told (parentsGives t))
+unfolding parentsOf numberTold
+parents-told t = tells numberTold numbers.Refused _ (parentsOrder t) (λ k. refl) (λ h. refl)
 
-pub used-number : (t : RuleTree) (xs : List ℕ) → numberTold (usedOf t xs) .number ≡ firstOf (countedOrder t xs)
-unfolding usedOf numberTold firstOf
-used-number t xs = next counts (grownOf t) (next counts (countsHold t xs) refl refl) refl
+pub used-told : (t : RuleTree) (xs : List ℕ) → numberTold (usedOf t xs) ≡ guarded (countedOrder t xs) refusedWith (told (usedGives xs))
+unfolding usedOf numberTold
+used-told t xs = tells numberTold numbers.Refused _ (countedOrder t xs) (λ k. refl) (λ h. refl)
 
-pub equal-number : (a b : RuleTree) → comparedTold (equalOf a b) .number ≡ firstOf (equalOrder a b)
-unfolding equalOf comparedTold firstOf
-equal-number a b = go (grownOf a) (grownOf b) (treesEqual a b)
-  where
-    go :
-        (x y z : Bool) → comparedTold (cond (x && y) (compared.Same z) (compared.Refused 10)) .number ≡ cond x (cond y 0 10) 10
-    go true true z = refl
-    go true false z = refl
-    go false y z = refl
+-- the choice itself is never refused
+abbrev Chooses : Chosen → Type 0
+Chooses r = chosenTold r ≡ told (nodeFrom r)
+
+better-told : (xs : List ℕ) (i : ℕ) (c : Chosen) → Chooses c → Chooses (better xs i c)
+unfolding better chosenTold nodeFrom
+better-told xs i (chosen.Leaf b) h = either Chooses (leb (getD xs b 0) (getD xs i 0)) refl refl
+better-told xs i chosen.Nobody h = refl
+better-told xs i (chosen.Refused k) h = h
+
+chosen-told : (nodes : List Node) (xs : List ℕ) (unmarked : Bool) (n : ℕ) → Chooses (mostUsed nodes xs unmarked n)
+unfolding mostUsed chosenTold nodeFrom
+chosen-told nodes xs unmarked zero = refl
+chosen-told nodes xs unmarked (suc i) =
+    let h = chosen-told nodes xs unmarked i in
+    either Chooses (eligible (nodeAt nodes i) unmarked) (better-told xs i (mostUsed nodes xs unmarked i) h) h
+
+pub most-used-told :
+    (unmarked : Bool) (t : RuleTree) (xs : List ℕ)
+    → chosenTold (mostUsedOf unmarked t xs) ≡ guarded (countedOrder t xs) refusedWith (told (mostUsedGives unmarked t xs))
+unfolding mostUsedOf chosenTold
+most-used-told unmarked t xs =
+    tells chosenTold chosen.Refused _ (countedOrder t xs) (λ k. refl) (λ h. chosen-told (t .nodes) xs unmarked (length xs))
+
+pub equal-told : (a b : RuleTree) → comparedTold (equalOf a b) ≡ guarded (equalOrder a b) refusedWith (told (equalGives a b))
+unfolding equalOf comparedTold
+equal-told a b = tells comparedTold compared.Refused _ (equalOrder a b) (λ k. refl) (λ h. refl)

@@ -3,7 +3,10 @@ use mathlib.Core.Path.{_≡_, refl}
 use mathlib.Core.Bool.{Bool, true, false, cond}
 use Prim.Native.Nat.{ℕ}
 use lib.Dec.{eqb}
-use Rattle.refusals.specs.Told.{Given, none}
+use mathlib.Core.List.{List, [], _∷_}
+use Rattle.quantities.specs.Guards.{Test, guarded}
+use Rattle.quantities.proofs.Guards.{Hold}
+use Rattle.refusals.specs.Told.{Given, none, Told, refusedWith}
 
 pub either : {A : Type 0} (P : A → Type 0) (b : Bool) {x y : A} → P x → P y → P (cond b x y)
 either P true p q = p
@@ -21,7 +24,7 @@ Keeps number after before r = (number r ≡ 0 → ⊥) → after r ≡ before
 abbrev pub Gives : {A B : Type 0} → (A → Given B) → Given B → A → ℕ → Type 0
 Gives told v r n = told r ≡ cond (eqb n 0) v none
 
-pub both : {A : Type 0} (P : A → ℕ → Type 0) (b : Bool) {x y : A} {m k : ℕ} → P x m → P y k → P (cond b x y) (cond b m k)
+pub both : {A B : Type 0} (P : A → B → Type 0) (b : Bool) {x y : A} {m k : B} → P x m → P y k → P (cond b x y) (cond b m k)
 both P true p q = p
 both P false p q = q
 
@@ -29,3 +32,14 @@ both P false p q = q
 pub held : {A : Type 0} (P : A → ℕ → Type 0) (b : Bool) {x y : A} {m k : ℕ} → (b ≡ true → P x m) → P y k → P (cond b x y) (cond b m k)
 held P true p q = p refl
 held P false p q = q
+
+-- a guarded answer tells its refusals' numbers, and where every test holds what its answer tells
+pub tells : {A B : Type 0} (f : A → Told B) (refuse : ℕ → A) (answer : A) (ts : List Test) {v : Told B} → ((k : ℕ) → f (refuse k) ≡ refusedWith k)
+    → (Hold ts → f answer ≡ v) → f (guarded ts refuse answer) ≡ guarded ts refusedWith v
+tells f refuse answer [] r a = a tt
+tells {A} {B} f refuse answer (t ∷ ts) {v} r a = go (t .holds) refl (λ e. tells f refuse answer ts r (λ h. a (e, h)))
+  where
+    go : (b : Bool) → t .holds ≡ b → (t .holds ≡ true → f (guarded ts refuse answer) ≡ guarded ts refusedWith v)
+        → f (cond b (guarded ts refuse answer) (refuse (t .number))) ≡ cond b (guarded ts refusedWith v) (refusedWith (t .number))
+    go true e g = g e
+    go false e g = r (t .number)

@@ -5,6 +5,7 @@ use Prim.Native.Nat.{ℕ, _*_}
 use lib.ListN.{length}
 use lib.Dec.{eqb, ltb, leb}
 use lib.Ieee.{Float}
+use Rattle.quantities.specs.Guards.{Test, test, firstOf}
 use Rattle.quantities.specs.Time.{moment, readMoment, admitted}
 use Rattle.remy.specs.declared.action.Action.{Action}
 use Rattle.remy.specs.declared.point.Point.{Point}
@@ -37,19 +38,6 @@ use Rattle.sender.specs.declared.Draw.the-variants.{Absent, Given}
 use Rattle.sender.specs.declared.Sender.{Sender}
 use Rattle.sender.specs.Memory.{remembered, pointOf}
 use Rattle.sender.specs.Sender.{modeHolds}
-
--- a test, and the number that a call is refused with where it fails
-pub record Test : Type 0 where
-  pub holds : Bool
-  pub number : ℕ
-
-abbrev pub test : Bool → ℕ → Test
-test b k = record { holds = b; number = k }
-
--- the number of the first test that fails, 0 where none does
-unfoldable pub firstOf : List Test → ℕ
-firstOf [] = 0
-firstOf (t ∷ ts) = cond (t .holds) (firstOf ts) (t .number)
 
 -- no test fails: the call is taken
 abbrev pub passes : List Test → Bool

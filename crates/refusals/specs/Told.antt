@@ -47,6 +47,10 @@ pub record Told (A : Type 0) : Type 0 where
   pub number : ℕ
   pub gives : Given A
 
+-- an answer of a call that is taken
+abbrev pub told : {A : Type 0} → Given A → Told A
+told v = record { number = 0; gives = v }
+
 abbrev pub gave : {A : Type 0} → A → Told A
 gave x = record { number = 0; gives = value x }
 

@@ -1,6 +1,6 @@
 -- A definition that picks by a test, and code that ran the test: what each way returns. Assumes nothing.
 use mathlib.Core.Path.{_≡_, sym, _∙_}
-use mathlib.Core.Bool.{Bool, true, false, cond, _&&_}
+use mathlib.Core.Bool.{Bool, true, false, cond}
 use Prim.Native.Nat.{ℕ, _<_, _≤_, _+_, _*_}
 use native.Mathlib.Omega.{arith}
 use lib.ListN.{length}
@@ -47,16 +47,6 @@ few-counts t xs g h = let a = grown-splits t g in let b = counts-accepted t xs h
 
 pub node-fits : (t : RuleTree) (i : ℕ) → grownOf t ≡ true → ltb i (nodeCount (t .splits)) ≡ true → i ≤ 512
 node-fits t i g l = let a = grown-splits t g in let b : i < nodeCount (t .splits) = ltb-true _ _ l in omega arith
-
--- two tests, one after the other
-pub via-both : {A : Type 0} {r q a b : Bool} {v x : A} (y : A) → r ≡ a → r ≡ true → q ≡ b → q ≡ true → v ≡ x → v ≡ cond (a && b) x y
-via-both {r} {q} y e f g h k = rw (← e, f, ← g, h) k
-
-pub via-second : {A : Type 0} {r q a b : Bool} {v y : A} (x : A) → r ≡ a → r ≡ true → q ≡ b → q ≡ false → v ≡ y → v ≡ cond (a && b) x y
-via-second {r} {q} x e f g h k = rw (← e, f, ← g, h) k
-
-pub via-first : {A : Type 0} {r a : Bool} {v y : A} (b : Bool) (x : A) → r ≡ a → r ≡ false → v ≡ y → v ≡ cond (a && b) x y
-via-first {r} b x e f k = rw (← e, f) k
 
 pub fresh-blank : (e : Point) (a : Action) → e ≡ usualEnds → a ≡ noAction → freshTree e a ≡ blankTree
 fresh-blank e a p q = rw (p, q)

@@ -1,9 +1,10 @@
 -- What each public call on a tree answers, refusals first and in 01's order.
 use mathlib.Core.Bool.{Bool, true, false, not, _&&_, cond}
-use mathlib.Core.List.{List}
+use mathlib.Core.List.{List, [], _∷_}
 use Prim.Native.Nat.{ℕ, suc, _+_}
 use lib.ListN.{set, getD, length}
 use lib.Dec.{eqb, ltb}
+use Rattle.quantities.specs.Guards.{test, guarded}
 use Rattle.remy.specs.declared.action.Action.{Action}
 use Rattle.remy.specs.declared.point.Point.{Point}
 use Rattle.remy.specs.Action.{validOf}
@@ -50,12 +51,12 @@ leafIn t i = ltb i (nodeCount (t .splits)) && isLeaf (t .nodes) i
 
 -- new tree: 1
 unfoldable pub newOf : Action → Changed
-newOf a = cond (validOf a) (taken (freshTree usualEnds a)) (refuse 1 blankTree)
+newOf a = guarded (test (validOf a) 1 ∷ []) (λ k. refuse k blankTree) (taken (freshTree usualEnds a))
 
 -- the cube of a node, leaf or parent: 10, 3
 unfoldable pub domainOf : RuleTree → ℕ → Domain
 domainOf t i =
-    cond (grownOf t) (cond (ltb i (nodeCount (t .splits))) (domain.Of (cubeOf t i)) (domain.Refused 3)) (domain.Refused 10)
+    guarded (test (grownOf t) 10 ∷ test (ltb i (nodeCount (t .splits))) 3 ∷ []) domain.Refused (domain.Of (cubeOf t i))
 
 -- what a point finds in a grown tree
 unfoldable pub foundIn : RuleTree → Point → Looked
@@ -64,29 +65,20 @@ foundIn t p =
 
 -- lookup: 10
 unfoldable pub lookupOf : RuleTree → Point → Looked
-unfolding foundIn
-lookupOf t p = cond (grownOf t) (foundIn t p) (looked.Refused 10)
+lookupOf t p = guarded (test (grownOf t) 10 ∷ []) looked.Refused (foundIn t p)
 
 -- lookup with one leaf's action replaced: 10, 3, 1
 unfoldable pub replacedOf : AugmentedRuleTree → Point → Looked
-unfolding foundIn
 replacedOf a p =
-    cond (grownOf (a .tree))
-    (cond (leafIn (a .tree) (a .leaf))
-    (cond (validOf (a .action)) (foundIn (withAction (a .tree) (a .leaf) (a .action)) p) (looked.Refused 1))
-    (looked.Refused 3))
-    (looked.Refused 10)
+    guarded (test (grownOf (a .tree)) 10 ∷ test (leafIn (a .tree) (a .leaf)) 3 ∷ test (validOf (a .action)) 1 ∷ [])
+    looked.Refused (foundIn (withAction (a .tree) (a .leaf) (a .action)) p)
 
 -- tally: 10, 4, 23
 unfoldable pub tallyOf : RuleTree → List ℕ → Point → Tallied
 tallyOf t xs p =
-    cond (grownOf t)
-    (cond (countsHold t xs)
-    (cond (containsOf (rootOf (t .ends)) p)
-    (cond (eqb (total xs) limit) (tallied.Refused 23) (tallied.Counted (leafOf t p)))
-    tallied.Nothing)
-    (tallied.Refused 4))
-    (tallied.Refused 10)
+    let inside = containsOf (rootOf (t .ends)) p in
+    guarded (test (grownOf t) 10 ∷ test (countsHold t xs) 4 ∷ test (not (inside && eqb (total xs) limit)) 23 ∷ [])
+    tallied.Refused (cond inside (tallied.Counted (leafOf t p)) tallied.Nothing)
 
 -- the lent list after a tally
 unfoldable pub countedIn : List ℕ → Tallied → List ℕ
@@ -97,36 +89,34 @@ countedIn xs (tallied.Refused k) = xs
 -- set action: 10, 3, 1
 unfoldable pub setOf : RuleTree → ℕ → Action → Changed
 setOf t i a =
-    cond (grownOf t) (cond (leafIn t i) (cond (validOf a) (taken (withAction t i a)) (refuse 1 t)) (refuse 3 t)) (refuse 10 t)
+    guarded (test (grownOf t) 10 ∷ test (leafIn t i) 3 ∷ test (validOf a) 1 ∷ []) (λ k. refuse k t) (taken (withAction t i a))
 
 -- mark: 10, 3
 unfoldable pub markOf : RuleTree → ℕ → Changed
-markOf t i = cond (grownOf t) (cond (leafIn t i) (taken (withMark t i)) (refuse 3 t)) (refuse 10 t)
+markOf t i = guarded (test (grownOf t) 10 ∷ test (leafIn t i) 3 ∷ []) (λ k. refuse k t) (taken (withMark t i))
 
 -- clear all marks: 10
 unfoldable pub clearOf : RuleTree → Changed
-clearOf t = cond (grownOf t) (taken (withoutMarks t)) (refuse 10 t)
+clearOf t = guarded (test (grownOf t) 10 ∷ []) (λ k. refuse k t) (taken (withoutMarks t))
 
 -- split: 10, 3, 20
 unfoldable pub splitOf : RuleTree → ℕ → Changed
 splitOf t i =
-    cond (grownOf t) (cond (leafIn t i) (cond (ltb (t .splits) 64) (taken (splitAt t i)) (refuse 20 t)) (refuse 3 t)) (refuse 10 t)
+    guarded (test (grownOf t) 10 ∷ test (leafIn t i) 3 ∷ test (ltb (t .splits) 64) 20 ∷ []) (λ k. refuse k t) (taken (splitAt t i))
 
 -- num_parents: 10
 unfoldable pub parentsOf : RuleTree → Number
-parentsOf t = cond (grownOf t) (number.Of (countBelow 513 (λ i. not (isLeaf (t .nodes) i)))) (number.Refused 10)
+parentsOf t = guarded (test (grownOf t) 10 ∷ []) number.Refused (number.Of (countBelow 513 (λ i. not (isLeaf (t .nodes) i))))
 
 -- num_used_rules: 10, 4
 unfoldable pub usedOf : RuleTree → List ℕ → Number
-usedOf t xs = cond (grownOf t) (cond (countsHold t xs) (number.Of (usedIn xs)) (number.Refused 4)) (number.Refused 10)
+usedOf t xs = guarded (test (grownOf t) 10 ∷ test (countsHold t xs) 4 ∷ []) number.Refused (number.Of (usedIn xs))
 
 -- most used, or most used among the unmarked: 10, 4
 unfoldable pub mostUsedOf : Bool → RuleTree → List ℕ → Chosen
 mostUsedOf unmarked t xs =
-    cond (grownOf t)
-    (cond (countsHold t xs) (mostUsed (t .nodes) xs unmarked (length xs)) (chosen.Refused 4))
-    (chosen.Refused 10)
+    guarded (test (grownOf t) 10 ∷ test (countsHold t xs) 4 ∷ []) chosen.Refused (mostUsed (t .nodes) xs unmarked (length xs))
 
 -- equality: 10, of either tree
 unfoldable pub equalOf : RuleTree → RuleTree → Compared
-equalOf a b = cond (grownOf a && grownOf b) (compared.Same (treesEqual a b)) (compared.Refused 10)
+equalOf a b = guarded (test (grownOf a) 10 ∷ test (grownOf b) 10 ∷ []) compared.Refused (compared.Same (treesEqual a b))

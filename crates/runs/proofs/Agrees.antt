@@ -24,11 +24,10 @@ use Rattle.sender.specs.declared.Sender.{Sender}
 use Rattle.sender.specs.Sender.{modeHolds, freshSender}
 use Rattle.promise.specs.PlainTree.{Tree, Choice, nobody, leaf}
 use Rattle.promise.specs.PlainTrainer.{State, Call, Asked, wantsCounts, wantsScore, finished, recordBytes, step, start, question}
-use Rattle.promise.specs.PlainSender as sender
-use Rattle.promise.specs.PlainSender.{PlainSender, SenderCall, leafAt, react}
+use Rattle.promise.specs.PlainSender.{PlainSender, leafAt, react}
 use Rattle.promise.specs.Values.{Every, FitSettings}
 use Rattle.promise.specs.Demand3.{Step, stepOf, shownAs}
-use Rattle.promise.specs.SenderRuns as runs
+use Rattle.sender.specs.SenderCall as runs
 use Rattle.promise.specs.SenderRuns.{SenderStep, senderStep, plainStart}
 use Rattle.promise.proofs.Embed.{embedTree, ValidTree}
 use Rattle.promise.proofs.States.{embed, ValidState}
@@ -42,7 +41,7 @@ use Rattle.promise.proofs.Runs.{step-embeds, starts-alike}
 use Rattle.promise.proofs.TreeGrown.{grown-embeds}
 use Rattle.promise.proofs.SenderLeaf.{lookedAt, found-embeds}
 use Rattle.promise.proofs.SenderRender.{render, start-renders}
-use Rattle.promise.proofs.SenderRun.{embedCall, AckOver, call-step}
+use Rattle.promise.proofs.SenderRun.{AckOver, call-step}
 use Rattle.runs.specs.Script.{settings, mode, Item, train, ack, send, tick, lookup, callsOf}
 use Rattle.runs.specs.Compared.{askedWords, outcomeWords, reactionWords, foundWords, comparedFrom, comparedWith, comparedOf}
 use Rattle.runs.specs.Ran.{questionWords, stepWords, senderWords, lookedWords, endWords, ranFrom, ranWith, ranOf}
@@ -116,8 +115,8 @@ module _ (is : List Item) (st : State) (s : PlainSender) (v : ValidState st) (f 
       ∙ ap (λ (ws : List ℕ). outcomeWords o ++ ws) e
 
   sender-agrees :
-      (c : SenderCall) → AckOver ValidTree c → ranFrom (embed st) (render (react s c .sender)) is ≡ comparedFrom st (react s c .sender) is
-      → senderWords (senderStep (render s) (embedCall c)) ++ ranFrom (embed st) (senderStep (render s) (embedCall c) .sender) is
+      (c : runs.SenderCall Tree) → AckOver ValidTree c → ranFrom (embed st) (render (react s c .sender)) is ≡ comparedFrom st (react s c .sender) is
+      → senderWords (senderStep (render s) (runs.over embedTree c)) ++ ranFrom (embed st) (senderStep (render s) (runs.over embedTree c) .sender) is
       ≡ reactionWords (react s c) ++ comparedFrom st (react s c .sender) is
   sender-agrees c a e =
       ap (λ (x : SenderStep). senderWords x ++ ranFrom (embed st) (x .sender) is) (call-step s c a)
@@ -125,34 +124,34 @@ module _ (is : List Item) (st : State) (s : PlainSender) (v : ValidState st) (f 
 
   ack-agrees :
       (sent received : Float) (draw : Draw)
-      → let c = sender.ack (st .tree) sent received draw in
+      → let c = runs.ack (st .tree) sent received draw in
       let o = senderStep (render s) (runs.ack (embed st .tree) sent received draw) in
       ranFrom (embed st) (render (react s c .sender)) is ≡ comparedFrom st (react s c .sender) is
       → senderWords o ++ ranFrom (embed st) (o .sender) is ≡ reactionWords (react s c) ++ comparedFrom st (react s c .sender) is
-  unfolding embedCall
+  unfolding runs.over
   ack-agrees sent received draw e =
       ap
       (λ (t : RuleTree).
       let o = senderStep (render s) (runs.ack t sent received draw) in senderWords o ++ ranFrom (embed st) (o .sender) is)
       (tree-embeds st)
-      ∙ sender-agrees (sender.ack (st .tree) sent received draw) (v .tree) e
+      ∙ sender-agrees (runs.ack (st .tree) sent received draw) (v .tree) e
 
   send-agrees :
       (at : Float)
       → let o = senderStep (render s) (runs.send at) in
-      ranFrom (embed st) (render (react s (sender.send at) .sender)) is ≡ comparedFrom st (react s (sender.send at) .sender) is
+      ranFrom (embed st) (render (react s (runs.send at) .sender)) is ≡ comparedFrom st (react s (runs.send at) .sender) is
       → senderWords o ++ ranFrom (embed st) (o .sender) is
-      ≡ reactionWords (react s (sender.send at)) ++ comparedFrom st (react s (sender.send at) .sender) is
-  unfolding embedCall
-  send-agrees at e = sender-agrees (sender.send at) tt e
+      ≡ reactionWords (react s (runs.send at)) ++ comparedFrom st (react s (runs.send at) .sender) is
+  unfolding runs.over
+  send-agrees at e = sender-agrees (runs.send at) tt e
 
   tick-agrees :
       let o = senderStep (render s) runs.tick in
-      ranFrom (embed st) (render (react s sender.tick .sender)) is ≡ comparedFrom st (react s sender.tick .sender) is
+      ranFrom (embed st) (render (react s runs.tick .sender)) is ≡ comparedFrom st (react s runs.tick .sender) is
       → senderWords o ++ ranFrom (embed st) (o .sender) is
-      ≡ reactionWords (react s sender.tick) ++ comparedFrom st (react s sender.tick .sender) is
-  unfolding embedCall
-  tick-agrees e = sender-agrees sender.tick tt e
+      ≡ reactionWords (react s runs.tick) ++ comparedFrom st (react s runs.tick .sender) is
+  unfolding runs.over
+  tick-agrees e = sender-agrees runs.tick tt e
 
   lookup-then :
       (p : Point) → ranFrom (embed st) (render s) is ≡ comparedFrom st s is
@@ -169,9 +168,9 @@ from-agrees [] st s v f h = end-agrees st v f
 from-agrees (train c ∷ is) st s v f h =
     train-agrees is st s v f c (from-agrees is (step st c .state) s (step-valid st v c) (step-fits st f c (h .0)) (h .1))
 from-agrees (ack sent received draw ∷ is) st s v f h =
-    ack-agrees is st s v f sent received draw (from-agrees is st (react s (sender.ack (st .tree) sent received draw) .sender) v f (h .1))
-from-agrees (send at ∷ is) st s v f h = send-agrees is st s v f at (from-agrees is st (react s (sender.send at) .sender) v f (h .1))
-from-agrees (tick ∷ is) st s v f h = tick-agrees is st s v f (from-agrees is st (react s sender.tick .sender) v f (h .1))
+    ack-agrees is st s v f sent received draw (from-agrees is st (react s (runs.ack (st .tree) sent received draw) .sender) v f (h .1))
+from-agrees (send at ∷ is) st s v f h = send-agrees is st s v f at (from-agrees is st (react s (runs.send at) .sender) v f (h .1))
+from-agrees (tick ∷ is) st s v f h = tick-agrees is st s v f (from-agrees is st (react s runs.tick .sender) v f (h .1))
 from-agrees (lookup p ∷ is) st s v f h = lookup-then is st s v f p (from-agrees is st s v f (h .1))
 
 -- ---- from the start on

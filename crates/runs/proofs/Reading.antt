@@ -21,7 +21,7 @@ use Rattle.sender.specs.declared.RepeatMode.the-variants.{Off, Always, Between}
 use Rattle.sender.specs.declared.Draw.{Draw}
 use Rattle.sender.specs.Run.{drawFrom}
 use Rattle.promise.specs.PlainTrainer.{counts, score, reload}
-use Rattle.promise.specs.SenderRuns as runs
+use Rattle.sender.specs.SenderCall as runs
 use Rattle.runs.specs.Script.{Item, train, lookup, word, number, float, action, settings, mode, sizeOf, itemOf, wholeOf, itemsOf}
 use Rattle.runs.specs.Turn.{fixedSize, wholeSize, trainerCall, senderCall}
 use Rattle.runs.proofs.Putting.{lt-or-le}

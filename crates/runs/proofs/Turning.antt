@@ -33,7 +33,7 @@ use Rattle.sender.specs.Sender.{ackOf, sendOf, tickOf}
 use Rattle.promise.specs.PlainTrainer as plain
 use Rattle.promise.specs.Demand3.{afterCall, reloaded, stepOf}
 use Rattle.promise.specs.SenderRuns.{SenderStep, afterReply, senderStep}
-use Rattle.promise.specs.SenderRuns as runs
+use Rattle.sender.specs.SenderCall as runs
 use Rattle.runs.specs.declared.calls.Trained.{Trained}
 use Rattle.runs.specs.declared.calls.Reacted.{Reacted}
 use Rattle.runs.specs.declared.State.{State}
@@ -160,8 +160,8 @@ module _ (s : Sender) (out : List ℕ) (at : ℕ) where
   refused k e p = rw e (record { sender = refl; puts = p })
 
   module _ (q : Reacted) (after : List ℕ) where
-    pub of-move : {c d : runs.Call} → c ≡ d → Moves out at (senderStep s c) q after → Moves out at (senderStep s d) q after
-    of-move e m = subst (λ (z : runs.Call). Moves out at (senderStep s z) q after) e m
+    pub of-move : {c d : runs.SenderCall RuleTree} → c ≡ d → Moves out at (senderStep s c) q after → Moves out at (senderStep s d) q after
+    of-move e m = subst (λ (z : runs.SenderCall RuleTree). Moves out at (senderStep s z) q after) e m
 
     pub by-ack : (t : RuleTree) (sent received : Float) (draw : Draw) {answer : Reply} → answer ≡ ackOf t s sent received draw
         → Moves out at (afterReply s answer) q after → Moves out at (senderStep s (runs.ack t sent received draw)) q after

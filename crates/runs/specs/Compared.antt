@@ -11,9 +11,9 @@ use Rattle.trainer.specs.declared.settings.Settings.{Settings}
 use Rattle.trainer.specs.Settings.{settingsHold}
 use Rattle.sender.specs.declared.RepeatMode.{RepeatMode}
 use Rattle.sender.specs.Sender.{modeHolds, freshSender}
+use Rattle.sender.specs.SenderCall as runs
 use Rattle.promise.specs.PlainTree.{Tree, Choice, nobody, leaf, ruleAt}
 use Rattle.promise.specs.PlainTrainer as plain
-use Rattle.promise.specs.PlainSender as sender
 use Rattle.promise.specs.PlainSender.{PlainSender, Reaction, leafAt, react}
 use Rattle.promise.specs.SenderRuns.{plainStart}
 use Rattle.runs.specs.Script.{Item, train, ack, send, tick, lookup, settings, mode, callsOf}
@@ -49,9 +49,9 @@ unfolding askedWords foundWords
 comparedFrom st s [] = length (plain.recordBytes st) ∷ plain.recordBytes st
 comparedFrom st s (train c ∷ is) = let o = plain.step st c in outcomeWords o ++ comparedFrom (o .state) s is
 comparedFrom st s (ack sent received draw ∷ is) =
-    let o = react s (sender.ack (st .tree) sent received draw) in reactionWords o ++ comparedFrom st (o .sender) is
-comparedFrom st s (send at ∷ is) = let o = react s (sender.send at) in reactionWords o ++ comparedFrom st (o .sender) is
-comparedFrom st s (tick ∷ is) = let o = react s sender.tick in reactionWords o ++ comparedFrom st (o .sender) is
+    let o = react s (runs.ack (st .tree) sent received draw) in reactionWords o ++ comparedFrom st (o .sender) is
+comparedFrom st s (send at ∷ is) = let o = react s (runs.send at) in reactionWords o ++ comparedFrom st (o .sender) is
+comparedFrom st s (tick ∷ is) = let o = react s runs.tick in reactionWords o ++ comparedFrom st (o .sender) is
 comparedFrom st s (lookup p ∷ is) = foundWords (st .tree) (leafAt (st .tree) p) ++ comparedFrom st s is
 
 -- a fresh trainer and a fresh sender, or 2

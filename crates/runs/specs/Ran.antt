@@ -23,7 +23,7 @@ use Rattle.sender.specs.declared.RepeatMode.{RepeatMode}
 use Rattle.sender.specs.Sender.{modeHolds, freshSender}
 use Rattle.promise.specs.Demand3.{Step, stepOf}
 use Rattle.promise.specs.SenderRuns.{SenderStep, senderStep}
-use Rattle.promise.specs.SenderRuns as runs
+use Rattle.sender.specs.SenderCall as runs
 use Rattle.runs.specs.Script.{Item, train, ack, send, tick, lookup, settings, mode, callsOf}
 use Rattle.runs.specs.Compared.{bits, actionWords}
 

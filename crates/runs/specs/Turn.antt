@@ -13,7 +13,7 @@ use Rattle.sender.specs.Run.{drawFrom}
 use Rattle.promise.specs.PlainTrainer as plain
 use Rattle.promise.specs.Demand3.{Step, stepOf}
 use Rattle.promise.specs.SenderRuns.{SenderStep, senderStep}
-use Rattle.promise.specs.SenderRuns as runs
+use Rattle.sender.specs.SenderCall as runs
 use Rattle.runs.specs.declared.calls.Trained.{Trained}
 use Rattle.runs.specs.declared.calls.Reacted.{Reacted}
 use Rattle.runs.specs.declared.State.{State}
@@ -81,7 +81,7 @@ trainerCall ws =
     (cond (eqb code 2) (plain.score (float ws 1)) (plain.reload (replicate (word ws 1 % 32768) 0)))
 
 -- the call to the sender that stands first, of code 4, 5 or else 6
-unfoldable pub senderCall : RuleTree → List ℕ → runs.Call
+unfoldable pub senderCall : RuleTree → List ℕ → runs.SenderCall RuleTree
 senderCall t ws =
     let code = word ws 0 in
     cond (eqb code 4) (runs.ack t (float ws 1) (float ws 2) (drawFrom (word ws 3)))

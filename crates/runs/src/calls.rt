@@ -9,7 +9,7 @@ ghost use Rattle.record.specs.Calls.{saveOf};
 ghost use Rattle.promise.specs.PlainTrainer as plain;
 ghost use Rattle.promise.specs.Demand3.{afterCall, stepOf};
 ghost use Rattle.promise.specs.SenderRuns.{afterReply, senderStep};
-ghost use Rattle.promise.specs.SenderRuns as moves;
+ghost use Rattle.sender.specs.SenderCall as moves;
 ghost use Rattle.runs.specs.Script as spec;
 ghost use Rattle.runs.specs.Ran.{lookedWords, endWords};
 ghost use Rattle.runs.specs.Turn.{Puts, Trains, Moves, trainerCall, senderCall};

@@ -32,6 +32,7 @@ use Rattle.sender.specs.declared.inner.acks.Drawn.{Drawn}
 use Rattle.sender.specs.declared.inner.acks.Drawn.the-variants.{Next, Missing}
 use Rattle.sender.specs.Memory.{averageNext, rttNext, valueOf, ratioNow, remembered, pointOf}
 use Rattle.sender.specs.Acks.{drawn, repeatNext, paced, settled, ackDrawn, ackWith, ackPending, ackAdmitted, ackIn}
+use Rattle.sender.specs.SenderCall.{SenderCall, ack, send, tick}
 use Rattle.sender.specs.Sender.{ackOf, withSend, sendAdmitted, sendOf, tickOf}
 
 -- what a sender remembers of its acks, with what is pending
@@ -78,29 +79,24 @@ unfoldable pub left : Sender → Reply → Sender
 left s (Taken h) = h .sender
 left s (Refused k) = s
 
-pub data Call : Type 0 where
-  ack : RuleTree → Float → Float → Draw → Call
-  send : Float → Call
-  tick : Call
-
-unfoldable pub after : Sender → Call → Sender
+unfoldable pub after : Sender → SenderCall RuleTree → Sender
 unfolding left
 after s (ack t sent received draw) = left s (ackOf t s sent received draw)
 after s (send at) = left s (sendOf s at)
 after s tick = tickOf s .sender
 
-unfoldable pub run : Sender → List Call → Sender
+unfoldable pub run : Sender → List (SenderCall RuleTree) → Sender
 unfolding after
 run s [] = s
 run s (c ∷ cs) = run (after s c) cs
 
 -- the call alone where it is taken
-unfoldable pub ifTaken : Reply → Call → List Call → List Call
+unfoldable pub ifTaken : Reply → SenderCall RuleTree → List (SenderCall RuleTree) → List (SenderCall RuleTree)
 ifTaken (Taken h) c cs = c ∷ cs
 ifTaken (Refused k) c cs = cs
 
 -- the acks among the calls that are taken where they stand
-unfoldable pub takenAcks : Sender → List Call → List Call
+unfoldable pub takenAcks : Sender → List (SenderCall RuleTree) → List (SenderCall RuleTree)
 unfolding after ifTaken
 takenAcks s [] = []
 takenAcks s (ack t sent received draw ∷ cs) =
@@ -214,13 +210,13 @@ module _ {s u : Sender} (e : Same s u) (t : RuleTree) (draw : Draw) where
       go false = refused-alike 10
 
 -- the taken acks alone leave the same past
-ack-run : (s u : Sender) (c : Call) (cs : List Call) → ((x y : Sender) → Same x y → Same (run x cs) (run y (takenAcks x cs))) → Same s u
+ack-run : (s u : Sender) (c : SenderCall RuleTree) (cs : List (SenderCall RuleTree)) → ((x y : Sender) → Same x y → Same (run x cs) (run y (takenAcks x cs))) → Same s u
     → (r : Reply) → Same (left s r) (after u c) → Same (run (left s r) cs) (run u (ifTaken r c (takenAcks (left s r) cs)))
 unfolding run ifTaken
 ack-run s u c cs rest e (Taken h) k = rest (h .sender) (after u c) k
 ack-run s u c cs rest e (Refused n) k = rest s u e
 
-run-same : (s u : Sender) (cs : List Call) → Same s u → Same (run s cs) (run u (takenAcks s cs))
+run-same : (s u : Sender) (cs : List (SenderCall RuleTree)) → Same s u → Same (run s cs) (run u (takenAcks s cs))
 unfolding run takenAcks
 run-same s u [] e = e
 run-same s u (ack t sent received draw ∷ cs) e =
@@ -229,17 +225,17 @@ run-same s u (ack t sent received draw ∷ cs) e =
 run-same s u (send at ∷ cs) e = run-same (after s (send at)) u cs (send-same s u at e)
 run-same s u (tick ∷ cs) e = run-same (after s tick) u cs (tick-same s u e)
 
-pub history : (s : Sender) (cs : List Call) → pastOf (run s cs) ≡ pastOf (run s (takenAcks s cs))
+pub history : (s : Sender) (cs : List (SenderCall RuleTree)) → pastOf (run s cs) ≡ pastOf (run s (takenAcks s cs))
 history s cs = run-same s s cs (record { past = refl; mode = refl }) .past
 
-pub point-history : (s : Sender) (cs : List Call) (sent received : Time)
+pub point-history : (s : Sender) (cs : List (SenderCall RuleTree)) (sent received : Time)
     → pointOf (remembered (run s cs) sent received) ≡ pointOf (remembered (run s (takenAcks s cs)) sent received)
 point-history s cs sent received = ap (λ (p : Past). pointFrom p sent received) (history s cs)
 
-pub pending-history : (s : Sender) (cs : List Call) → run s cs .«next_change» ≡ run s (takenAcks s cs) .«next_change»
+pub pending-history : (s : Sender) (cs : List (SenderCall RuleTree)) → run s cs .«next_change» ≡ run s (takenAcks s cs) .«next_change»
 pending-history s cs = ap (λ (p : Past). p .nextChange) (history s cs)
 
 -- and a later ack has the same number
-pub number-history : (s : Sender) (cs : List Call) (t : RuleTree) (sent received : Float) (draw : Draw)
+pub number-history : (s : Sender) (cs : List (SenderCall RuleTree)) (t : RuleTree) (sent received : Float) (draw : Draw)
     → numberOf (ackOf t (run s cs) sent received draw) ≡ numberOf (ackOf t (run s (takenAcks s cs)) sent received draw)
 number-history s cs t sent received draw = ack-alike (run-same s s cs (record { past = refl; mode = refl })) t draw sent received .number

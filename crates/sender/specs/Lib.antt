@@ -3,3 +3,4 @@ pub mod Acks
 pub mod Sender
 pub mod Face
 pub mod Run
+pub mod SenderCall

@@ -1,11 +1,12 @@
 -- What each public call on a trainer answers, refusals first and in 01's order.
 use mathlib.Core.Bool.{Bool, true, false, _&&_, _||_, cond}
-use mathlib.Core.List.{List}
+use mathlib.Core.List.{List, [], _∷_}
 use Prim.Native.Nat.{ℕ, _+_}
 use lib.ListN.{getD}
 use lib.Dec.{eqb}
 use lib.IntN.{pos}
 use lib.Ieee.{Float, binary64, div, ofInt}
+use Rattle.quantities.specs.Guards.{test, guarded}
 use Rattle.remy.specs.Cube as cube
 use Rattle.rule_tree.specs.Change.{freshTree}
 use Rattle.rule_tree.specs.Nodes.{noAction}
@@ -45,7 +46,7 @@ started s = beginRound s (freshTree cube.usualEnds (s .«default_action»)) 0 0
 
 -- start: 2
 unfoldable pub startOf : Settings → Answered
-startOf s = cond (settingsHold s) (taken (started s)) (refuse 2 blankTrainer)
+startOf s = guarded (test (settingsHold s) 2 ∷ []) (λ k. refuse k blankTrainer) (taken (started s))
 
 -- "progress stage / (rule_splits + 1) in floats"
 abbrev pub progressOf : Trainer → Float
@@ -62,7 +63,7 @@ askedOf t =
 -- question: 10
 unfoldable pub questionOf : Trainer → Question
 unfolding askedOf
-questionOf t = cond (acceptedOf t) (askedOf t) (question.Refused 10)
+questionOf t = guarded (test (acceptedOf t) 10 ∷ []) question.Refused (askedOf t)
 
 abbrev pub wantsCounts : ℕ → Bool
 wantsCounts phase = eqb phase 1 || (eqb phase 2 || (eqb phase 3 || eqb phase 6))
@@ -79,9 +80,8 @@ countsStep t xs =
 unfoldable pub answerCountsOf : Trainer → List ℕ → Answered
 unfolding countsStep
 answerCountsOf t xs =
-    cond (acceptedOf t)
-    (cond (wantsCounts (t .phase)) (cond (countsHold (t .tree) xs) (countsStep t xs) (refuse 4 t)) (refuse 21 t))
-    (refuse 10 t)
+    guarded (test (acceptedOf t) 10 ∷ test (wantsCounts (t .phase)) 21 ∷ test (countsHold (t .tree) xs) 4 ∷ [])
+    (λ k. refuse k t) (countsStep t xs)
 
 unfoldable pub scoreStep : Trainer → Float → Trainer
 scoreStep t x = cond (eqb (t .phase) 4) (phase4 t x) (phase5 t x)
@@ -90,4 +90,4 @@ scoreStep t x = cond (eqb (t .phase) 4) (phase4 t x) (phase5 t x)
 unfoldable pub answerScoreOf : Trainer → Float → Answered
 unfolding scoreStep
 answerScoreOf t x =
-    cond (acceptedOf t) (cond (wantsScore (t .phase)) (taken (scoreStep t x)) (refuse 21 t)) (refuse 10 t)
+    guarded (test (acceptedOf t) 10 ∷ test (wantsScore (t .phase)) 21 ∷ []) (λ k. refuse k t) (taken (scoreStep t x))
