@@ -17,15 +17,20 @@ use Rattle.trainer.specs.declared.Answered.{Answered}
 use Rattle.trainer.specs.Phases.{refuse, taken}
 use Rattle.trainer.specs.Calls.{blankTrainer, answerCountsOf}
 use Rattle.trainer.proofs.Accepting.{Held, counts-held}
-use Rattle.record.specs.Read.{splitCount, nodeAtPlace, readOf}
+use Rattle.record.specs.declared.inner.layout.Layout.{Layout}
+use Rattle.record.specs.Layout.{layoutOf, givenAction}
+use Rattle.record.specs.Read.{settingsAt, splitCount, nodeAtPlace, readIn, versionAt, readOf}
 use Rattle.record.specs.Calls.{lengthHolds, versionHolds, bodyHolds, loadOf}
-use Rattle.record.proofs.Loading.{load-written}
+use Rattle.record.proofs.Loading.{load-again}
 use Rattle.host_trainer.specs.Records.{onTrainer, countsIn}
 use Rattle.host_answers.specs.Answers.{scoresOn, groupCount, groupSize, groupBody, groupOn, groupsOn, answersIn}
 use Rattle.host_answers.specs.Parts.{Ready}
 use Rattle.host_answers.proofs.Scores.{held-from, on-refused, on-taken, scores-held}
 
 -- ---- the trainer of a record
+read-whole : (lay : Layout) (held : List ℕ) → length (readIn lay held .tree .nodes) ≡ 513
+read-whole lay held = length-tabulate 513 (nodeAtPlace lay (givenAction (settingsAt held 5)) held (splitCount lay held))
+
 load-whole : (held : List ℕ) → length (loadOf held .trainer .tree .nodes) ≡ 513
 unfolding loadOf
 load-whole held = go (lengthHolds held) (versionHolds held) (bodyHolds held)
@@ -33,7 +38,7 @@ load-whole held = go (lengthHolds held) (versionHolds held) (bodyHolds held)
     go : (a b c : Bool)
         → length (cond a (cond b (cond c (taken (readOf held)) (refuse 8 blankTrainer)) (refuse 7 blankTrainer)) (refuse 6 blankTrainer) .trainer .tree .nodes)
         ≡ 513
-    go true true true = length-tabulate 513 (nodeAtPlace held (splitCount held))
+    go true true true = read-whole (layoutOf (versionAt held)) held
     go true true false = fresh-length cube.usualEnds noAction
     go true false c = fresh-length cube.usualEnds noAction
     go false b c = fresh-length cube.usualEnds noAction
@@ -41,7 +46,7 @@ load-whole held = go (lengthHolds held) (versionHolds held) (bodyHolds held)
 pub load-ready : (held : List ℕ) {a : Answered} → a ≡ loadOf held → a .refused ≡ 0 → Ready (a .trainer)
 load-ready held {a} e z =
     record {
-      accepted = load-written held (a .trainer) (sym e ∙ ap (λ (n : ℕ). refuse n (a .trainer)) z) .0;
+      accepted = load-again held (a .trainer) (sym e ∙ ap (λ (n : ℕ). refuse n (a .trainer)) z) .accepted;
       whole = ap (λ (x : Answered). length (x .trainer .tree .nodes)) e ∙ load-whole held;
     }
 

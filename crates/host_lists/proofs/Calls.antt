@@ -15,7 +15,7 @@ use Rattle.record.specs.declared.Saved.{Saved}
 use Rattle.record.specs.declared.Saved.the-variants.{Size, Refused}
 use Rattle.record.specs.Read.{actionAt, settingsAt}
 use Rattle.record.specs.Calls.{loadOf}
-use Rattle.record.proofs.Loading.{load-written}
+use Rattle.record.proofs.Loading.{load-again}
 use Rattle.host_trainer.specs.Records.{settingsWhole}
 use Rattle.host_lists.specs.Lists.{listAfter, candidatesIn, candidatesAfter, askedInARow, rowIn, rowAfter, equalIn}
 use Rattle.host_lists.specs.Parts.{candidatesWith}
@@ -84,7 +84,7 @@ module _ (settings action out : List ℕ) where
 
 -- ---- what the trainer of a record asks for in a row
 pub loaded : (held : List ℕ) (a : Answered) → a ≡ loadOf held → a .refused ≡ 0 → acceptedOf (a .trainer) ≡ true
-loaded held a e z = load-written held (a .trainer) (sym e ∙ (λ j. record { refused = z j; trainer = a .trainer })) .0
+loaded held a e z = load-again held (a .trainer) (sym e ∙ (λ j. record { refused = z j; trainer = a .trainer })) .accepted
 
 abbrev Row : List ℕ → Answered → Saved → List ℕ → Type 0
 Row out a r l = (r ≡ rowIn a out) × (l ≡ rowAfter a out)

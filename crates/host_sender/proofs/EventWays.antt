@@ -14,7 +14,7 @@ use Rattle.trainer.specs.declared.Answered.{Answered}
 use Rattle.record.specs.declared.Saved.{Saved}
 use Rattle.record.specs.declared.Saved.the-variants as saved
 use Rattle.record.specs.Calls.{loadOf}
-use Rattle.record.proofs.Loading.{load-written, accepted-grown}
+use Rattle.record.proofs.Loading.{load-again, accepted-grown}
 use Rattle.record.proofs.CallWays.{stored}
 use Rattle.sender.specs.declared.Sender.{Sender}
 use Rattle.host_sender.specs.Layout.{senderBytes, senderAt}
@@ -100,7 +100,7 @@ module _ (t : RuleTree) (sender list out : List ℕ) {x : Saved} where
 -- ---- events
 -- a loaded trainer's tree is grown
 pub loaded-grown : (held : List ℕ) {a : Answered} → a ≡ loadOf held → a .refused ≡ 0 → grownOf (a .trainer .tree) ≡ true
-loaded-grown held {a} e f = accepted-grown (a .trainer) (load-written held (a .trainer) (sym e ∙ (λ j. record { refused = f j; trainer = a .trainer })) .0)
+loaded-grown held {a} e f = accepted-grown (a .trainer) (load-again held (a .trainer) (sym e ∙ (λ j. record { refused = f j; trainer = a .trainer })) .accepted)
 
 module _ (held sender list out : List ℕ) {a : Answered} (e : a ≡ loadOf held) where
   abbrev EventsAre : Saved → List ℕ → List ℕ → Type 0

@@ -11,16 +11,19 @@ use lib.Ieee.{binary64, fits}
 use lib.Ieee.Bits.{ofBits-fits}
 use mir.Syntax.{w32}
 use mir.ValLaws.{toZ-fits}
+use Rattle.remy.specs.Cube.{usualEnds}
 use Rattle.rule_tree.specs.declared.Node.{Node}
-use Rattle.rule_tree.specs.Nodes.{noNode, parentWith, blankNode, nodeCount}
-use Rattle.rule_tree.proofs.Plain.{ActionFits}
+use Rattle.rule_tree.specs.Nodes.{noNode, blankNode, nodeCount}
+use Rattle.rule_tree.proofs.Plain.{ActionFits, PointFits}
 use Rattle.rule_tree.proofs.Lists.{length-tabulate, getD-tabulate}
 use Rattle.trainer.specs.declared.Trainer.{Trainer}
 use Rattle.trainer.specs.declared.Answered.{Answered}
 use Rattle.trainer.specs.Phases.{refuse, taken}
 use Rattle.trainer.specs.Calls.{blankTrainer}
 use Rattle.record.specs.Bytes.{valueFrom, numberAt}
-use Rattle.record.specs.Read.{actionAt, flagAt, settingsAt, splitCount, linkOf, leafAtPlace, payloadPlace, nodeAtPlace, statePlace, readOf}
+use Rattle.record.specs.declared.inner.layout.Layout.{Layout}
+use Rattle.record.specs.Layout.{layoutOf, givenAction, listPlace, statePlace}
+use Rattle.record.specs.Read.{actionAt, flagAt, settingsAt, pointAt, endsAt, splitCount, linkOf, carriedAt, payloadPlace, nodeAtPlace, readIn, versionAt, readOf}
 use Rattle.record.specs.Calls.{lengthHolds, versionHolds, bodyHolds, loadOf}
 use Rattle.record.proofs.Bytes.{below-most}
 use Rattle.record.proofs.Stands.{SettingsFits}
@@ -75,34 +78,51 @@ settings-fits bytes at h =
     }
 
 -- ---- a trainer that is read from bytes
-place-fits : (bytes : List ℕ) (s i : ℕ) → Bytes bytes → ActionFits (nodeAtPlace bytes s i .action)
+given-fits : (bytes : List ℕ) → ActionFits (givenAction (settingsAt bytes 5))
+given-fits bytes = plain-fits
+
+place-fits : (lay : Layout) (bytes : List ℕ) (s i : ℕ) → Bytes bytes → ActionFits (nodeAtPlace lay (givenAction (settingsAt bytes 5)) bytes s i .action)
 unfolding nodeAtPlace
-place-fits bytes s i h = go (ltb i (nodeCount s)) (leafAtPlace bytes s i)
+place-fits lay bytes s i h = go (ltb i (nodeCount s)) (carriedAt lay bytes s i)
   where
     go : (b c : Bool)
         → ActionFits
         (cond b
         (cond c
-        (record { action = actionAt bytes (payloadPlace bytes s i); children = 0; optimized = flagAt bytes (payloadPlace bytes s i + 20) })
-        (parentWith (linkOf bytes s i)))
+        (record { action = actionAt bytes (payloadPlace lay bytes s i); children = linkOf bytes (listPlace lay) s i; optimized = flagAt bytes (payloadPlace lay bytes s i + 20) })
+        (record { action = givenAction (settingsAt bytes 5); children = linkOf bytes (listPlace lay) s i; optimized = false }))
         blankNode
         .action)
-    go true true = action-fits bytes (payloadPlace bytes s i) h
-    go true false = plain-fits
+    go true true = action-fits bytes (payloadPlace lay bytes s i) h
+    go true false = given-fits bytes
     go false c = plain-fits
 
-read-fits : (bytes : List ℕ) → Bytes bytes → TrainerFits (readOf bytes)
-read-fits bytes h =
-    let s = splitCount bytes in
-    let at = statePlace s in
+ends-read-fit : (lay : Layout) (bytes : List ℕ) (at : ℕ) → PointFits (endsAt lay bytes at)
+ends-read-fit lay bytes at = go (lay .ends)
+  where
+    go : (b : Bool) → PointFits (cond b (pointAt bytes at) usualEnds)
+    go true =
+        record {
+          acks = ofBits-fits binary64 (numberAt bytes at 8);
+          sends = ofBits-fits binary64 (numberAt bytes (at + 8) 8);
+          ratios = ofBits-fits binary64 (numberAt bytes (at + 16) 8);
+        }
+    go false = ends-fit
+
+-- in every layout
+read-fits : (lay : Layout) (bytes : List ℕ) → Bytes bytes → TrainerFits (readIn lay bytes)
+read-fits lay bytes h =
+    let s = splitCount lay bytes in
+    let at = statePlace lay s in
+    let node = nodeAtPlace lay (givenAction (settingsAt bytes 5)) bytes s in
     record {
       settings = settings-fits bytes 5 h;
       tree =
           record {
-            full = length-tabulate 513 (nodeAtPlace bytes s);
-            ends = ends-fit;
+            full = length-tabulate 513 node;
+            ends = ends-read-fit lay bytes 118;
             actions = λ i l.
-                subst (λ (x : Node). ActionFits (x .action)) (sym (getD-tabulate 513 i (nodeAtPlace bytes s) noNode l)) (place-fits bytes s i h);
+                subst (λ (x : Node). ActionFits (x .action)) (sym (getD-tabulate 513 i node noNode l)) (place-fits lay bytes s i h);
           };
       stage = number-below bytes (at + 1) 4 h;
       round = number-below bytes (at + 5) 4 h;
@@ -129,4 +149,4 @@ loaded-is bytes t e = go (lengthHolds bytes) (versionHolds bytes) (bodyHolds byt
     go false v b q = absurd (refusal 5 t q)
 
 pub loaded-fits : (bytes : List ℕ) (t : Trainer) → Bytes bytes → loadOf bytes ≡ taken t → TrainerFits t
-loaded-fits bytes t h e = subst TrainerFits (loaded-is bytes t e) (read-fits bytes h)
+loaded-fits bytes t h e = subst TrainerFits (loaded-is bytes t e) (read-fits (layoutOf (versionAt bytes)) bytes h)

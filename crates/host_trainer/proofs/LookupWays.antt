@@ -34,7 +34,7 @@ use Rattle.record.specs.Calls.{loadOf}
 use Rattle.record.proofs.Stores.{wrote}
 use Rattle.record.proofs.Writing.{action-count}
 use Rattle.record.proofs.CallWays.{stored}
-use Rattle.record.proofs.Loading.{accepted-grown, load-written}
+use Rattle.record.proofs.Loading.{accepted-grown, load-again}
 use Rattle.host_trainer.specs.Lookups.{pointAt, foundBytes, lookedBytes, sized, lookupsIn, looksAfter, lookups, lookupsAfter, replacedIn, replaced, replacedAfter}
 use Rattle.host_trainer.specs.Parts.{replacedFor, replacedLook}
 
@@ -144,7 +144,7 @@ module _ (f : Point → Looked) (points : List ℕ) where
 -- ---- the tree that was tested
 pub loaded-grown : (held : List ℕ) (a : Answered) → a ≡ loadOf held → a .refused ≡ 0 → grownOf (a .trainer .tree) ≡ true
 loaded-grown held a e z =
-    accepted-grown (a .trainer) (load-written held (a .trainer) (sym e ∙ (λ j. record { refused = z j; trainer = a .trainer })) .0)
+    accepted-grown (a .trainer) (load-again held (a .trainer) (sym e ∙ (λ j. record { refused = z j; trainer = a .trainer })) .accepted)
 
 -- what a lookup gives where its tests hold
 look-is : (t : RuleTree) (p : Point) → grownOf t ≡ true → foundIn t p ≡ lookupOf t p

@@ -24,7 +24,7 @@ use Rattle.record.specs.Write.{recordOf}
 use Rattle.record.specs.Read.{settingsAt}
 use Rattle.record.specs.Calls.{saveOf, bufferAfter, loadOf}
 use Rattle.record.proofs.RoundTrip.{TrainerFits}
-use Rattle.record.proofs.Loading.{load-saved, load-written}
+use Rattle.record.proofs.Loading.{load-saved, load-again}
 use Rattle.host_trainer.specs.Records.{settingsWhole, startIn, onTrainer, countsIn, countsAnswered, scoreAnswered, writtenOf, recordAfter}
 use Rattle.host_trainer.specs.Questions.{fitted, questionIn, questionAfter, askedIn, askedAfter}
 use Rattle.host_trainer.specs.Parts.{questionPut}
@@ -170,7 +170,7 @@ seen-same a b p q r j = record { refused = p j; asked = q j; bytes = r j }
 module _ (held : List ℕ) (t : Trainer) (h : Holds held t) (c : Call) where
   call-next : Next held t (hostAnswer held (c .answer)) (c .out)
   call-next =
-      let ok = load-written held t (h .loads) .0 in
+      let ok = load-again held t (h .loads) .accepted in
       let same = answer-same held t (c .answer) (h .loads) in
       next held t h (hostAnswer held (c .answer)) (c .out)
       (subst (λ (z : Answered). acceptedOf (z .trainer) ≡ true) (sym same) (answer-accepted t ok (h .fits) (c .answer)))

@@ -24,7 +24,7 @@ use Rattle.panel_lines.specs.declared.Shown.{Shown}
 use Rattle.panel_lines.specs.declared.Shown.the-variants.{Size, Refused}
 use Rattle.panel_lines.specs.Panel.{linesOf, fitted, recordPart, countsPart, countsIn, startHolds, countsShown, recordShown, panelOf, outAfter}
 use Rattle.record.proofs.Size.{leaves-count}
-use Rattle.record.proofs.Loading.{accepted-grown, load-written}
+use Rattle.record.proofs.Loading.{accepted-grown, load-again}
 use Rattle.panel_lines.proofs.Room.{lines-fit}
 use Rattle.panel_lines.proofs.Ways.{load-splits}
 
@@ -46,7 +46,7 @@ pub leaves-told : (bytes : List ℕ) → loadOf bytes .refused ≡ 0
     → countBelow (nodeCount (loadOf bytes .trainer .tree .splits)) (isLeaf (loadOf bytes .trainer .tree .nodes)) ≡ 1 + 7 * loadOf bytes .trainer .tree .splits
 leaves-told bytes h =
     let t = loadOf bytes .trainer in
-    let a = load-written bytes t (loaded bytes h ∙ ap (λ (r : Answered). taken (r .trainer)) (sym (loaded bytes h))) .0 in
+    let a = load-again bytes t (loaded bytes h ∙ ap (λ (r : Answered). taken (r .trainer)) (sym (loaded bytes h))) .accepted in
     leaves-count (t .tree) (accepted-grown t a) (ap (λ (r : Answered). length (r .trainer .tree .nodes)) (loaded bytes h) ∙ length-tabulate 513 _)
 
 -- ---- an input of more bytes than any that is taken

@@ -2,20 +2,20 @@
 use mathlib.Core.Path.{_≡_, refl, ap, _∙_}
 use mathlib.Core.Bool.{true}
 use mathlib.Core.List.{List, _++_, append-assoc}
-use Prim.Native.Nat.{ℕ, _+_, _-_, _*_, _≤_}
+use Prim.Native.Nat.{ℕ, _+_, _-_, _≤_}
 use native.Mathlib.Omega.{arith}
 use borrow.Author.Tests.{le-leb}
 use lib.ListN.{length, length-append}
 use lib.Seq.{take-at, drop-at}
-use Rattle.rule_tree.proofs.Links.{grown-splits}
 use Rattle.trainer.specs.declared.Trainer.{Trainer}
 use Rattle.trainer.specs.State.{acceptedOf}
 use Rattle.trainer.specs.Phases.{taken}
 use Rattle.record.specs.Bytes.{bytesOf, numberAt}
-use Rattle.record.specs.Write.{bodyOf, recordOf}
+use Rattle.record.specs.Layout.{layoutOf}
+use Rattle.record.specs.Write.{version, bodyOf, recordIn, recordOf}
 use Rattle.record.specs.Calls.{loadOf}
 use Rattle.record.proofs.Bytes.{bytes-count, number-stands}
-use Rattle.record.proofs.Size.{record-count}
+use Rattle.record.proofs.Size.{record-small}
 use Rattle.record.proofs.RoundTrip.{TrainerFits}
 use Rattle.record.proofs.Loading.{accepted-grown, load-saved}
 use Rattle.panel_lines.specs.declared.Shown.{Shown}
@@ -28,20 +28,17 @@ module _ (t : Trainer) (f : TrainerFits t) (a : acceptedOf t ≡ true) (more : L
   input : List ℕ
   input = recordOf t ++ more
 
-  size : length (recordOf t) ≡ 172 + 149 * t .tree .splits
-  size = record-count t (accepted-grown t a) (f .tree .full)
-
-  few : t .tree .splits ≤ 64
-  few = grown-splits (t .tree) (accepted-grown t a)
+  size : length (recordOf t) ≤ 11076
+  size = record-small (layoutOf version) version t (accepted-grown t a) (f .tree .full)
 
   body : 4 + length (bodyOf t) ≡ length (recordOf t)
-  unfolding recordOf
+  unfolding recordIn
   body = omega (arith, length-append (bytesOf 4 (length (bodyOf t))) (bodyOf t), bytes-count 4 (length (bodyOf t)))
 
   told : numberAt input 0 4 ≡ length (bodyOf t)
-  unfolding input recordOf
+  unfolding input recordIn
   told =
-      number-stands (recordOf t ++ more) 0 4 (length (bodyOf t)) (bodyOf t ++ more) (omega (arith, body, size, few))
+      number-stands (recordOf t ++ more) 0 4 (length (bodyOf t)) (bodyOf t ++ more) (omega (arith, body, size))
       (append-assoc (bytesOf 4 (length (bodyOf t))) (bodyOf t) more)
 
   place : length (recordOf t) ≡ 4 + numberAt input 0 4
@@ -52,8 +49,8 @@ module _ (t : Trainer) (f : TrainerFits t) (a : acceptedOf t ≡ true) (more : L
   starts =
       let n = length-append (recordOf t) more in
       let l = place in
-      let p = le-leb 4 (length input) (omega (arith, size)) in
-      let q = le-leb (numberAt input 0 4) 16384 (omega (arith, size, few)) in
+      let p = le-leb 4 (length input) (omega (arith, body)) in
+      let q = le-leb (numberAt input 0 4) 16384 (omega (arith, size)) in
       let r = le-leb (numberAt input 0 4) (length input - 4) (omega arith) in
       rw (p, q, r)
 

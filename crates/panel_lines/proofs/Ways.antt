@@ -19,7 +19,7 @@ use Rattle.trainer.specs.Phases.{refuse}
 use Rattle.record.specs.Bytes.{numberAt}
 use Rattle.record.specs.Calls.{loadOf}
 use Rattle.record.proofs.CallWays.{stored}
-use Rattle.record.proofs.Loading.{accepted-grown, load-written}
+use Rattle.record.proofs.Loading.{accepted-grown, load-again}
 use Rattle.panel_lines.specs.declared.Shown.{Shown}
 use Rattle.panel_lines.specs.declared.Shown.the-variants.{Size, Refused}
 use Rattle.panel_lines.specs.Panel.{linesOf, recordPart, countsPart, countsIn, startHolds, countsShown, recordShown, panelOf, outAfter}
@@ -98,8 +98,8 @@ start-fits input h =
 
 pub load-splits : (bytes : List ℕ) (a : Answered) → a ≡ loadOf bytes → a .refused ≡ 0 → a .trainer .tree .splits ≤ 64
 load-splits bytes a e h =
-    let q = load-written bytes (a .trainer) (sym e ∙ ap (λ (k : ℕ). refuse k (a .trainer)) h) in
-    grown-splits (a .trainer .tree) (accepted-grown (a .trainer) (q .0))
+    let q = load-again bytes (a .trainer) (sym e ∙ ap (λ (k : ℕ). refuse k (a .trainer)) h) in
+    grown-splits (a .trainer .tree) (accepted-grown (a .trainer) (q .accepted))
 
 module _ (input out : List ℕ) where
   pub panel-short : startHolds input ≡ false → (Refused 6 ≡ panelOf input out) × (out ≡ outAfter input out (panelOf input out))

@@ -13,7 +13,8 @@ use Rattle.rule_tree.specs.Nodes as layer
 use Rattle.trainer.specs.declared.settings.Settings.{Settings}
 use Rattle.trainer.specs.declared.Trainer.{Trainer}
 use Rattle.record.specs.Bytes.{bytesOf, flagByte}
-use Rattle.record.specs.Write.{actionBytes, settingsBytes, numbersBytes, splitsBytes, nodeBytes, payloadBytes, bodyOf, version, recordOf}
+use Rattle.record.specs.Write.{actionBytes, settingsBytes, numbersBytes, splitsBytes, nodeBytes, payloadBytes, bodyOf, version, recordIn, recordOf}
+use Rattle.record.specs.Layout.{layoutOf}
 use Rattle.record.specs.Write as written
 use Rattle.promise.specs.PlainTree.{Tree, nodes, member, isLeaf, ruleAt, from, those, leaves}
 use Rattle.promise.specs.PlainTrainer.{State, Phase, phase1, phase2, phase3, phase4, phase5, phase6, phase7, at, leavesBytes, treeBytes, keptNumber, keptScore, phaseBytes, body, recordBytes}
@@ -59,11 +60,11 @@ leaves-one t false x = refl
 
 payload-last :
     (ns : List Node) (n : ℕ)
-    → payloadBytes version ns (suc n) ≡ payloadBytes version ns n ++ cond (layer.isLeaf ns n) (nodeBytes (nodeAt ns n)) []
+    → payloadBytes (layoutOf version) ns (suc n) ≡ payloadBytes (layoutOf version) ns n ++ cond (layer.isLeaf ns n) (nodeBytes (nodeAt ns n)) []
 unfolding payloadBytes
 payload-last ns n = refl
 
-payload-none : (ns : List Node) → payloadBytes version ns 0 ≡ []
+payload-none : (ns : List Node) → payloadBytes (layoutOf version) ns 0 ≡ []
 unfolding payloadBytes
 payload-none ns = refl
 
@@ -87,7 +88,7 @@ module _ (t : Tree) (v : ValidTree t) where
       go true e = refl
       go false e = ap nodeBytes (leaf-node t v n (leaf-from t n l e))
 
-  payloads : (n : ℕ) → n ≤ nodes t → payloadBytes version (embedTree t .nodes) n ≡ leavesBytes t (those (isLeaf t) (from 0 n))
+  payloads : (n : ℕ) → n ≤ nodes t → payloadBytes (layoutOf version) (embedTree t .nodes) n ≡ leavesBytes t (those (isLeaf t) (from 0 n))
   payloads zero l = payload-none (embedTree t .nodes) ∙ sym (leaves-none t)
   payloads (suc n) l =
       payload-last (embedTree t .nodes) n
@@ -97,10 +98,10 @@ module _ (t : Tree) (v : ValidTree t) where
       ∙ ap (leavesBytes t) (sym (those-append (isLeaf t) (from 0 n) (n ∷ [])))
       ∙ ap (λ (xs : List ℕ). leavesBytes t (those (isLeaf t) xs)) (ap (λ (m : ℕ). from 0 n ++ (m ∷ [])) (omega arith) ∙ sym (from-last n 0))
 
-  tree-bytes : (bs : List ℕ) → splitsBytes (embedTree t) ++ (payloadBytes version (embedTree t .nodes) (nodes t) ++ bs) ≡ treeBytes t ++ bs
+  tree-bytes : (bs : List ℕ) → splitsBytes (embedTree t) ++ (payloadBytes (layoutOf version) (embedTree t .nodes) (nodes t) ++ bs) ≡ treeBytes t ++ bs
   tree-bytes bs =
       let n = bytesOf 2 (length (t .splits)) in
-      ap (λ (xs : List ℕ). (n ++ numbersBytes xs) ++ (payloadBytes version (embedTree t .nodes) (nodes t) ++ bs)) (splits-embed t v)
+      ap (λ (xs : List ℕ). (n ++ numbersBytes xs) ++ (payloadBytes (layoutOf version) (embedTree t .nodes) (nodes t) ++ bs)) (splits-embed t v)
       ∙ ap (λ (ps : List ℕ). (n ++ numbersBytes (t .splits)) ++ (ps ++ bs)) (payloads (nodes t) (omega arith))
       ∙ sym (append-assoc (n ++ numbersBytes (t .splits)) (leavesBytes t (leaves t)) bs)
       ∙ ap (λ (xs : List ℕ). xs ++ bs) (append-assoc n (numbersBytes (t .splits)) (leavesBytes t (leaves t)))
@@ -121,14 +122,14 @@ body-embeds st v =
     let s = settings-of (st .settings) (embedTree (st .tree)) (st .stage) (st .round) (st .phase) in
     let q = tree-of (st .settings) (embedTree (st .tree)) (st .stage) (st .round) (st .phase) in
     let bs = written.stateBytes (embed st) in
-    ap (λ (x : Settings). version ∷ (settingsBytes x ++ (splitsBytes (embed st .tree) ++ (payloadBytes version (embed st .tree .nodes) (layer.nodeCount (embed st .tree .splits)) ++ bs)))) s
-    ∙ ap (λ (x : RuleTree). version ∷ (settingsBytes (st .settings) ++ (splitsBytes x ++ (payloadBytes version (x .nodes) (layer.nodeCount (x .splits)) ++ bs)))) q
+    ap (λ (x : Settings). version ∷ (settingsBytes x ++ (splitsBytes (embed st .tree) ++ (payloadBytes (layoutOf version) (embed st .tree .nodes) (layer.nodeCount (embed st .tree .splits)) ++ bs)))) s
+    ∙ ap (λ (x : RuleTree). version ∷ (settingsBytes (st .settings) ++ (splitsBytes x ++ (payloadBytes (layoutOf version) (x .nodes) (layer.nodeCount (x .splits)) ++ bs)))) q
     ∙ ap (λ (xs : List ℕ). version ∷ (settingsBytes (st .settings) ++ xs)) (tree-bytes (st .tree) v bs)
     ∙ ap (λ (xs : List ℕ). version ∷ (settingsBytes (st .settings) ++ (treeBytes (st .tree) ++ xs)))
     (state-bytes (st .settings) (st .tree) (st .stage) (st .round) (st .phase))
 
 record-is : (t : Trainer) → recordOf t ≡ bytesOf 4 (length (bodyOf t)) ++ bodyOf t
-unfolding recordOf
+unfolding recordIn
 record-is t = refl
 
 pub record-embeds : (st : State) → ValidState st → recordOf (embed st) ≡ recordBytes st

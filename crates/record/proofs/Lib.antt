@@ -1,5 +1,6 @@
 pub mod Bytes
 pub mod Signed
+pub mod Layouts
 pub mod Stores
 pub mod Writing
 pub mod Reading

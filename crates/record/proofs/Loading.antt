@@ -1,12 +1,13 @@
--- What load answers: it takes back what save writes, and what it takes is written again as the same bytes. Assumes nothing.
+-- What load answers: it takes back what is written in a known version, and what it takes is written again, in its own version, as the same
+-- bytes. Assumes nothing.
 use mathlib.Core.Path.{_≡_, refl, sym, ap, subst, _∙_}
 use mathlib.Core.Bool.{Bool, true, false, _&&_}
 use mathlib.Core.List.{List}
-use Prim.Native.Nat.{ℕ, _+_, _-_}
+use Prim.Native.Nat.{ℕ, _+_, _-_, _≤_}
 use native.Mathlib.Omega.{arith}
-use borrow.Author.Tests.{eq-eqb, le-leb}
+use borrow.Author.Tests.{eq-eqb, eqb-true, le-leb}
 use lib.Dec.{eqb, leb}
-use lib.ListN.{length, getD}
+use lib.ListN.{length}
 use Rattle.rule_tree.specs.Grown.{grownOf}
 use Rattle.rule_tree.proofs.Plain.{and-l, and-r}
 use Rattle.trainer.specs.declared.Trainer.{Trainer}
@@ -16,13 +17,14 @@ use Rattle.trainer.specs.State.{acceptedOf, phaseHolds}
 use Rattle.trainer.specs.Phases.{refuse, taken}
 use Rattle.trainer.specs.Calls.{blankTrainer}
 use Rattle.record.specs.Bytes.{bytesOf, numberAt, sameBytes}
-use Rattle.record.specs.Write.{version, bodyOf, recordOf}
-use Rattle.record.specs.Read.{readOf}
-use Rattle.record.specs.Calls.{lengthHolds, versionHolds, bodyHolds, loadOf}
+use Rattle.record.specs.Layout.{layoutOf, knownOf}
+use Rattle.record.specs.Write.{version, bodyIn, recordIn, recordOf}
+use Rattle.record.specs.Read.{versionAt, readIn, readOf}
+use Rattle.record.specs.Calls.{lengthHolds, versionHolds, againOf, bodyHolds, loadOf}
 use Rattle.record.proofs.Bytes.{bytes-count, same-self, same-is}
-use Rattle.record.proofs.Size.{body-count, record-count, few}
+use Rattle.record.proofs.Size.{body-size, record-size, record-small}
 use Rattle.record.proofs.Stands.{stands-all, first, next, number-back, byte-back}
-use Rattle.record.proofs.RoundTrip.{TrainerFits, read-back}
+use Rattle.record.proofs.RoundTrip.{TrainerFits, Carried, carried-grown, read-back}
 
 -- ---- the ways through load
 module _ (bytes : List ℕ) where
@@ -48,77 +50,112 @@ unfolding acceptedOf
 accepted-grown t h = and-l (grownOf (t .tree)) (phaseHolds t) (and-r (settingsHold (t .settings)) (grownOf (t .tree) && phaseHolds t) h)
 
 -- ---- what is written is taken back
-module _ (t : Trainer) (f : TrainerFits t) (a : acceptedOf t ≡ true) where
+both : (x y : Bool) → x ≡ true → y ≡ true → (x && y) ≡ true
+both true y p q = q
+both false y p q = p
+
+module _ (v : ℕ) (k : knownOf v ≡ true) (t : Trainer) (f : TrainerFits t) (a : acceptedOf t ≡ true) (can : Carried (layoutOf v) t) where
   g : grownOf (t .tree) ≡ true
   g = accepted-grown t a
 
   full : length (t .tree .nodes) ≡ 513
   full = f .tree .full
 
-  length-back : numberAt (recordOf t) 0 4 ≡ length (bodyOf t)
-  unfolding recordOf
-  length-back =
-      let l = few (t .tree) g full in
-      number-back (recordOf t) 0 4 (length (bodyOf t)) (omega (arith, body-count t g full))
-      (first (recordOf t) 0 (bytesOf 4 (length (bodyOf t))) (bodyOf t) (stands-all (recordOf t)))
+  abbrev body : List ℕ
+  body = bodyIn (layoutOf v) v t
 
-  written-length : lengthHolds (recordOf t) ≡ true
+  abbrev bytes : List ℕ
+  bytes = recordIn (layoutOf v) v t
+
+  small : length bytes ≤ 11076
+  small = record-small (layoutOf v) v t g full
+
+  parts : 4 + length body ≡ length bytes
+  parts = body-size (layoutOf v) v t g full ∙ sym (record-size (layoutOf v) v t g full)
+
+  length-back : numberAt bytes 0 4 ≡ length body
+  unfolding recordIn
+  length-back =
+      number-back bytes 0 4 (length body) (omega (arith, small, parts))
+      (first bytes 0 (bytesOf 4 (length body)) body (stands-all (recordIn (layoutOf v) v t)))
+
+  some : 5 ≤ length bytes
+  some = let e = record-size (layoutOf v) v t g full in omega arith
+
+  written-length : lengthHolds bytes ≡ true
   unfolding lengthHolds
   written-length =
-      let l = few (t .tree) g full in
-      let b = body-count t g full in
-      let r = record-count t g full in
-      let e : leb 4 (length (recordOf t)) ≡ true = le-leb 4 (length (recordOf t)) (omega arith) in
-      let m : leb (length (bodyOf t)) 16384 ≡ true = le-leb (length (bodyOf t)) 16384 (omega arith) in
-      let q : eqb (length (bodyOf t)) (length (recordOf t) - 4) ≡ true = eq-eqb (length (bodyOf t)) (length (recordOf t) - 4) (omega arith) in
+      let s = small in
+      let p = parts in
+      let e : leb 4 (length bytes) ≡ true = le-leb 4 (length bytes) (omega arith) in
+      let m : leb (length body) 16384 ≡ true = le-leb (length body) 16384 (omega arith) in
+      let q : eqb (length body) (length bytes - 4) ≡ true = eq-eqb (length body) (length bytes - 4) (omega arith) in
       rw (e, length-back, m, q)
 
-  version-back : getD (recordOf t) 4 0 ≡ version
-  unfolding recordOf
+  version-back : versionAt bytes ≡ v
+  unfolding recordIn
   version-back =
-      byte-back (recordOf t) 4 version _
-      (next (recordOf t) 0 4 (bytesOf 4 (length (bodyOf t))) (bodyOf t) (bytes-count 4 (length (bodyOf t))) (stands-all (recordOf t)))
+      byte-back bytes 4 v _
+      (next bytes 0 4 (bytesOf 4 (length body)) body (bytes-count 4 (length body)) (stands-all (recordIn (layoutOf v) v t)))
 
-  written-version : versionHolds (recordOf t) ≡ true
+  written-version : versionHolds bytes ≡ true
   unfolding versionHolds
-  written-version =
-      let e : leb 5 (length (recordOf t)) ≡ true = le-leb 5 (length (recordOf t)) (omega (arith, record-count t g full)) in
-      let q : eqb (getD (recordOf t) 4 0) version ≡ true = eq-eqb (getD (recordOf t) 4 0) version version-back in
-      rw (e, q)
+  written-version = both (leb 5 (length bytes)) (knownOf (versionAt bytes)) (le-leb 5 (length bytes) some) (ap knownOf version-back ∙ k)
 
-  written-body : bodyHolds (recordOf t) ≡ true
+  read-same : readOf bytes ≡ t
+  read-same = ap (λ (n : ℕ). readIn (layoutOf n) bytes) version-back ∙ read-back (layoutOf v) v t f g can
+
+  written-again : againOf bytes ≡ bytes
+  written-again = ap (λ (n : ℕ). recordIn (layoutOf n) n (readOf bytes)) version-back ∙ ap (recordIn (layoutOf v) v) read-same
+
+  written-body : bodyHolds bytes ≡ true
   unfolding bodyHolds
   written-body =
-      let e = read-back t f g in
-      rw (e, a) (same-self (recordOf t))
+      both (acceptedOf (readOf bytes)) (sameBytes (againOf bytes) bytes) (ap acceptedOf read-same ∙ a)
+      (ap (λ (r : List ℕ). sameBytes r bytes) written-again ∙ same-self bytes)
 
-  pub load-saved : loadOf (recordOf t) ≡ taken t
-  load-saved = sym (load-taken (recordOf t) written-length written-version written-body) ∙ ap taken (read-back t f g)
+  -- a trainer that a known version can carry is loaded from its record in that version
+  pub load-carried : loadOf (recordIn (layoutOf v) v t) ≡ taken t
+  load-carried = sym (load-taken bytes written-length written-version written-body) ∙ ap taken read-same
+
+pub load-saved : (t : Trainer) → TrainerFits t → acceptedOf t ≡ true → loadOf (recordOf t) ≡ taken t
+load-saved t f a = load-carried version refl t f a (carried-grown (layoutOf version) t f (accepted-grown t a))
 
 -- ---- what is taken is written again as the same bytes
-pub body-same : (bytes : List ℕ) → bodyHolds bytes ≡ true → (acceptedOf (readOf bytes) ≡ true) × (recordOf (readOf bytes) ≡ bytes)
-unfolding bodyHolds
-body-same bytes h = (
-  and-l (acceptedOf (readOf bytes)) (sameBytes (recordOf (readOf bytes)) bytes) h,
-  same-is (recordOf (readOf bytes)) bytes (and-r (acceptedOf (readOf bytes)) (sameBytes (recordOf (readOf bytes)) bytes) h),
-)
+pub record Loaded (bytes : List ℕ) (t : Trainer) : Type 0 where
+  pub accepted : acceptedOf t ≡ true
+  pub known : knownOf (versionAt bytes) ≡ true
+  pub again : recordIn (layoutOf (versionAt bytes)) (versionAt bytes) t ≡ bytes
 
-pub load-written : (bytes : List ℕ) (t : Trainer) → loadOf bytes ≡ taken t → (acceptedOf t ≡ true) × (recordOf t ≡ bytes)
-load-written bytes t e = by (lengthHolds bytes) refl
+load-found : (bytes : List ℕ) → versionHolds bytes ≡ true → bodyHolds bytes ≡ true → Loaded bytes (readOf bytes)
+unfolding versionHolds bodyHolds
+load-found bytes v b =
+    record {
+      accepted = and-l (acceptedOf (readOf bytes)) (sameBytes (againOf bytes) bytes) b;
+      known = and-r (leb 5 (length bytes)) (knownOf (versionAt bytes)) v;
+      again = same-is (againOf bytes) bytes (and-r (acceptedOf (readOf bytes)) (sameBytes (againOf bytes) bytes) b);
+    }
+
+pub load-again : (bytes : List ℕ) (t : Trainer) → loadOf bytes ≡ taken t → Loaded bytes t
+load-again bytes t e = by (lengthHolds bytes) refl
   where
     never : (k : ℕ) → refuse (k + 1) blankTrainer ≡ taken t → ⊥
     never k z = let q : k + 1 ≡ 0 = ap (λ (r : Answered). r .refused) z in omega arith
 
-    by-body : lengthHolds bytes ≡ true → versionHolds bytes ≡ true → (b : Bool) → bodyHolds bytes ≡ b → (acceptedOf t ≡ true) × (recordOf t ≡ bytes)
-    by-body h v true q =
-        subst (λ (u : Trainer). (acceptedOf u ≡ true) × (recordOf u ≡ bytes))
-        (ap (λ (r : Answered). r .trainer) (load-taken bytes h v q ∙ e)) (body-same bytes q)
+    by-body : lengthHolds bytes ≡ true → versionHolds bytes ≡ true → (b : Bool) → bodyHolds bytes ≡ b → Loaded bytes t
+    by-body h v true q = subst (Loaded bytes) (ap (λ (r : Answered). r .trainer) (load-taken bytes h v q ∙ e)) (load-found bytes v q)
     by-body h v false q = absurd (never 7 (load-bad bytes h v q ∙ e))
 
-    by-version : lengthHolds bytes ≡ true → (b : Bool) → versionHolds bytes ≡ b → (acceptedOf t ≡ true) × (recordOf t ≡ bytes)
+    by-version : lengthHolds bytes ≡ true → (b : Bool) → versionHolds bytes ≡ b → Loaded bytes t
     by-version h true q = by-body h q (bodyHolds bytes) refl
     by-version h false q = absurd (never 6 (load-unknown bytes h q ∙ e))
 
-    by : (b : Bool) → lengthHolds bytes ≡ b → (acceptedOf t ≡ true) × (recordOf t ≡ bytes)
+    by : (b : Bool) → lengthHolds bytes ≡ b → Loaded bytes t
     by true q = by-version q (versionHolds bytes) refl
     by false q = absurd (never 5 (load-short bytes q ∙ e))
+
+-- of the one version that is known so far: the same bytes as a save writes
+pub load-written : (bytes : List ℕ) (t : Trainer) → loadOf bytes ≡ taken t → (acceptedOf t ≡ true) × (recordOf t ≡ bytes)
+load-written bytes t e =
+    let l = load-again bytes t e in
+    (l .accepted, ap (λ (n : ℕ). recordIn (layoutOf n) n t) (sym (eqb-true (versionAt bytes) 1 (l .known))) ∙ l .again)

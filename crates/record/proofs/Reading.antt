@@ -1,6 +1,6 @@
 -- What the readers gather, node by node, is what the record's bytes stand for. Assumes nothing.
 use mathlib.Core.Path.{_≡_, sym, ap, _∙_}
-use mathlib.Core.Bool.{Bool, false, cond}
+use mathlib.Core.Bool.{Bool, true, false, cond}
 use mathlib.Core.List.{List}
 use mathlib.Core.Logic.{⊎-elim}
 use Prim.Native.Nat.{ℕ, suc, _+_, _*_, _<_, _≤_}
@@ -8,7 +8,6 @@ use native.Mathlib.Nat.{eq-or-lt-of-le}
 use native.Mathlib.Numerals.{add-one}
 use native.Mathlib.Omega.{arith}
 use borrow.Author.Tests.{eq-eqb, ne-eqb, lt-ltb, le-ltb}
-use lib.Dec.{eqb}
 use lib.ListN.{length, getD, set, replicate, length-set, length-replicate, getD-replicate}
 use lib.Seq.{getD-set-same, getD-set-other, ext-getD}
 use lib.IntN.{ℤ}
@@ -18,142 +17,160 @@ use mir.Val.{toZ}
 use Rattle.remy.specs.declared.action.Action.{Action}
 use Rattle.remy.specs.declared.point.Point.{Point}
 use Rattle.remy.specs.Action.{actionOf}
-use Rattle.remy.specs.Cube.{usualEnds}
+use Rattle.remy.specs.Cube.{pointOf, usualEnds}
 use Rattle.rule_tree.specs.declared.Node.{Node}
 use Rattle.rule_tree.specs.declared.RuleTree.{RuleTree}
 use Rattle.rule_tree.specs.Lists.{tabulate, countBelow}
-use Rattle.rule_tree.specs.Nodes.{noNode, nodeAt, nodeCount, blankNode, noAction, leafWith, parentWith}
+use Rattle.rule_tree.specs.Nodes.{noNode, nodeAt, nodeCount, blankNode, noAction, leafWith}
 use Rattle.rule_tree.proofs.Lists.{length-tabulate, getD-tabulate, countBelow-le}
 use Rattle.rule_tree.proofs.Owners.{same-or-not, below-or-not}
 use Rattle.trainer.specs.declared.settings.Settings.{Settings}
 use Rattle.trainer.specs.declared.Trainer.{Trainer}
+use Rattle.record.specs.declared.inner.layout.Layout.{Layout}
 use Rattle.record.specs.Bytes.{numberAt}
-use Rattle.record.specs.Read.{floatAt, actionAt, flagAt, settingsAt, treeAt, statePlace, trainerAt, splitAtPlace, linkOf, leafAtPlace, payloadPlace, nodeAtPlace}
-use Rattle.record.specs.Parts.{nodeWith}
+use Rattle.record.specs.Layout.{carries, givenAction, listPlace, nodesPlace, statePlace}
+use Rattle.record.specs.Read.{floatAt, actionAt, flagAt, settingsAt, pointAt, endsAt, treeAt, stateAt, trainerAt, splitAtPlace, linkOf, carriedAt, payloadPlace, nodeWith, nodeAtPlace}
+use Rattle.record.proofs.Layouts.{ends-few}
 
 -- ---- the links after the first k splits
-abbrev pub Linked : List ℕ → List ℕ → ℕ → Type 0
-Linked bytes out k = (length out ≡ 513) × ((i : ℕ) → i < 513 → getD out i 0 ≡ linkOf bytes k i)
+abbrev pub Linked : List ℕ → ℕ → List ℕ → ℕ → Type 0
+Linked bytes list out k = (length out ≡ 513) × ((i : ℕ) → i < 513 → getD out i 0 ≡ linkOf bytes list k i)
 
-pub link-none : (bytes : List ℕ) → Linked bytes (replicate 513 0) 0
+pub link-none : (bytes : List ℕ) (list : ℕ) → Linked bytes list (replicate 513 0) 0
 unfolding linkOf
-link-none bytes = (length-replicate {A = ℕ} 513 0, λ i l. getD-replicate 513 i 0 0 l)
+link-none bytes list = (length-replicate {A = ℕ} 513 0, λ i l. getD-replicate 513 i 0 0 l)
 
-pub link-suc-hit : (bytes : List ℕ) (k i : ℕ) → splitAtPlace bytes k ≡ i → linkOf bytes (suc k) i ≡ 8 * k + 1
+pub link-suc-hit : (bytes : List ℕ) (list k i : ℕ) → splitAtPlace bytes list k ≡ i → linkOf bytes list (suc k) i ≡ 8 * k + 1
 unfolding linkOf
-link-suc-hit bytes k i e = rw (eq-eqb (splitAtPlace bytes k) i e)
+link-suc-hit bytes list k i e = rw (eq-eqb (splitAtPlace bytes list k) i e)
 
-pub link-suc-miss : (bytes : List ℕ) (k i : ℕ) → (splitAtPlace bytes k ≡ i → ⊥) → linkOf bytes (suc k) i ≡ linkOf bytes k i
+pub link-suc-miss : (bytes : List ℕ) (list k i : ℕ) → (splitAtPlace bytes list k ≡ i → ⊥) → linkOf bytes list (suc k) i ≡ linkOf bytes list k i
 unfolding linkOf
-link-suc-miss bytes k i n = rw (ne-eqb (splitAtPlace bytes k) i n)
+link-suc-miss bytes list k i n = rw (ne-eqb (splitAtPlace bytes list k) i n)
 
-pub link-hit : (bytes out : List ℕ) (k node : ℕ) {next : List ℕ} → node ≡ splitAtPlace bytes k → node < 513 → Linked bytes out k
-    → next ≡ set out node (8 * k + 1) → Linked bytes next (k + 1)
-link-hit bytes out k node {next} e l h q = (ap length q ∙ length-set out node (8 * k + 1) ∙ h .0, at)
+pub link-hit : (bytes : List ℕ) (list : ℕ) (out : List ℕ) (k node : ℕ) {next : List ℕ} → node ≡ splitAtPlace bytes list k → node < 513 → Linked bytes list out k
+    → next ≡ set out node (8 * k + 1) → Linked bytes list next (k + 1)
+link-hit bytes list out k node {next} e l h q = (ap length q ∙ length-set out node (8 * k + 1) ∙ h .0, at)
   where
     long : length out ≡ 513
     long = h .0
 
-    at : (i : ℕ) → i < 513 → getD next i 0 ≡ linkOf bytes (k + 1) i
+    at : (i : ℕ) → i < 513 → getD next i 0 ≡ linkOf bytes list (k + 1) i
     at i b =
         ap (λ (r : List ℕ). getD r i 0) q
         ∙ ⊎-elim
-        (λ (p : node ≡ i). ap (λ (j : ℕ). getD (set out node (8 * k + 1)) j 0) (sym p) ∙ getD-set-same out node (8 * k + 1) 0 (omega arith) ∙ sym (link-suc-hit bytes k i (sym e ∙ p)))
-        (λ (n : node ≡ i → ⊥). getD-set-other out node i (8 * k + 1) 0 (λ z. n (sym z)) ∙ h .1 i b ∙ sym (link-suc-miss bytes k i (λ z. n (e ∙ z))))
+        (λ (p : node ≡ i). ap (λ (j : ℕ). getD (set out node (8 * k + 1)) j 0) (sym p) ∙ getD-set-same out node (8 * k + 1) 0 (omega arith) ∙ sym (link-suc-hit bytes list k i (sym e ∙ p)))
+        (λ (n : node ≡ i → ⊥). getD-set-other out node i (8 * k + 1) 0 (λ z. n (sym z)) ∙ h .1 i b ∙ sym (link-suc-miss bytes list k i (λ z. n (e ∙ z))))
         (same-or-not node i)
-        ∙ ap (λ (j : ℕ). linkOf bytes j i) (sym (add-one k))
+        ∙ ap (λ (j : ℕ). linkOf bytes list j i) (sym (add-one k))
 
-pub link-miss : (bytes out : List ℕ) (k node : ℕ) {next : List ℕ} → node ≡ splitAtPlace bytes k → 513 ≤ node → Linked bytes out k
-    → next ≡ out → Linked bytes next (k + 1)
-link-miss bytes out k node {next} e l h q = (
+pub link-miss : (bytes : List ℕ) (list : ℕ) (out : List ℕ) (k node : ℕ) {next : List ℕ} → node ≡ splitAtPlace bytes list k → 513 ≤ node → Linked bytes list out k
+    → next ≡ out → Linked bytes list next (k + 1)
+link-miss bytes list out k node {next} e l h q = (
   ap length q ∙ h .0,
-  λ i b. ap (λ (r : List ℕ). getD r i 0) q ∙ h .1 i b ∙ sym (link-suc-miss bytes k i (λ z. let w : node ≡ i = e ∙ z in omega arith)) ∙ ap (λ (j : ℕ). linkOf bytes j i) (sym (add-one k)),
+  λ i b. ap (λ (r : List ℕ). getD r i 0) q ∙ h .1 i b ∙ sym (link-suc-miss bytes list k i (λ z. let w : node ≡ i = e ∙ z in omega arith)) ∙ ap (λ (j : ℕ). linkOf bytes list j i) (sym (add-one k)),
 )
 
-pub link-all : (bytes out : List ℕ) (k s : ℕ) → k ≤ s → s ≤ k → Linked bytes out k → out ≡ tabulate 513 (linkOf bytes s)
-link-all bytes out k s a b h =
+pub link-all : (bytes : List ℕ) (list : ℕ) (out : List ℕ) (k s : ℕ) → k ≤ s → s ≤ k → Linked bytes list out k → out ≡ tabulate 513 (linkOf bytes list s)
+link-all bytes list out k s a b h =
     let q : k ≡ s = omega arith in
-    ext-getD 0 out (tabulate 513 (linkOf bytes s)) (h .0 ∙ sym (length-tabulate 513 (linkOf bytes s)))
+    ext-getD 0 out (tabulate 513 (linkOf bytes list s)) (h .0 ∙ sym (length-tabulate 513 (linkOf bytes list s)))
     (λ i l. let long = h .0 in let m : i < 513 = omega arith in
-    h .1 i m ∙ ap (λ (j : ℕ). linkOf bytes j i) q ∙ sym (getD-tabulate 513 i (linkOf bytes s) 0 m))
+    h .1 i m ∙ ap (λ (j : ℕ). linkOf bytes list j i) q ∙ sym (getD-tabulate 513 i (linkOf bytes list s) 0 m))
 
 -- ---- the nodes, one by one
-pub record Gathered (bytes : List ℕ) (s : ℕ) (nodes : List Node) (at i : ℕ) : Type 0 where
+pub record Gathered (lay : Layout) (a : Action) (bytes : List ℕ) (s : ℕ) (nodes : List Node) (at i : ℕ) : Type 0 where
   pub long : length nodes ≡ 513
-  pub place : at ≡ payloadPlace bytes s i
-  pub done : (j : ℕ) → j < i → nodeAt nodes j ≡ nodeAtPlace bytes s j
+  pub place : at ≡ payloadPlace lay bytes s i
+  pub done : (j : ℕ) → j < i → nodeAt nodes j ≡ nodeAtPlace lay a bytes s j
   pub left : (j : ℕ) → i ≤ j → j < 513 → nodeAt nodes j ≡ blankNode
 
-pub gathered-none : (bytes : List ℕ) (s : ℕ) (a : Action) → a ≡ noAction
-    → Gathered bytes s (replicate 513 (record { action = a; children = 0; optimized = false })) (120 + 2 * s) 0
-unfolding countBelow
-gathered-none bytes s a e =
-    let x : Node = record { action = a; children = 0; optimized = false } in
-    record {
-      long = length-replicate 513 x;
-      place = omega arith;
-      done = λ j l. absurd (omega arith);
-      left = λ j l m. getD-replicate 513 j x noNode m ∙ ap leafWith e;
-    }
+module _ (lay : Layout) (a : Action) (bytes : List ℕ) (s : ℕ) where
+  pub gathered-none : (z : Action) (at : ℕ) → z ≡ noAction → at ≡ nodesPlace lay s
+      → Gathered lay a bytes s (replicate 513 (record { action = z; children = 0; optimized = false })) at 0
+  unfolding countBelow
+  gathered-none z at e ea =
+      let x : Node = record { action = z; children = 0; optimized = false } in
+      record {
+        long = length-replicate 513 x;
+        place = omega arith;
+        done = λ j l. absurd (omega arith);
+        left = λ j l m. getD-replicate 513 j x noNode m ∙ ap leafWith e;
+      }
 
-pub child-is : (bytes cs : List ℕ) (s i : ℕ) → cs ≡ tabulate 513 (linkOf bytes s) → s ≤ 64 → i < nodeCount s → getD cs i 0 ≡ linkOf bytes s i
-child-is bytes cs s i e few l = ap (λ (r : List ℕ). getD r i 0) e ∙ getD-tabulate 513 i (linkOf bytes s) 0 (omega arith)
+  pub node-is : (i : ℕ) → i < nodeCount s → nodeWith lay a bytes (payloadPlace lay bytes s i) (linkOf bytes (listPlace lay) s i) ≡ nodeAtPlace lay a bytes s i
+  unfolding nodeAtPlace
+  node-is i l = rw (lt-ltb i (nodeCount s) l)
 
-pub node-is : (bytes : List ℕ) (s i : ℕ) → i < nodeCount s → nodeWith bytes (payloadPlace bytes s i) (linkOf bytes s i) ≡ nodeAtPlace bytes s i
-unfolding nodeAtPlace
-node-is bytes s i l = rw (lt-ltb i (nodeCount s) l)
+  count-more : (i : ℕ) → payloadPlace lay bytes s (i + 1) ≡ payloadPlace lay bytes s i + 21 * cond (carriedAt lay bytes s i) 1 0
+  unfolding countBelow
+  count-more i = rw (add-one i) (omega arith)
 
-count-more : (bytes : List ℕ) (s i : ℕ) → payloadPlace bytes s (i + 1) ≡ payloadPlace bytes s i + 21 * cond (eqb (linkOf bytes s i) 0) 1 0
-unfolding countBelow
-count-more bytes s i = rw (add-one i) (omega arith)
+  pub unused-is : (i : ℕ) → nodeCount s ≤ i → nodeAtPlace lay a bytes s i ≡ blankNode
+  unfolding nodeAtPlace
+  unused-is i l = rw (le-ltb i (nodeCount s) l)
 
-pub gathered-more : (bytes : List ℕ) (s : ℕ) (nodes : List Node) (at i c : ℕ) (x : Node) {next : ℕ} → i < nodeCount s → s ≤ 64
-    → Gathered bytes s nodes at i → c ≡ linkOf bytes s i → x ≡ nodeWith bytes at c → next ≡ at + 21 * cond (eqb c 0) 1 0
-    → Gathered bytes s (set nodes i x) next (i + 1)
-gathered-more bytes s nodes at i c x {next} l few g ec ex en =
-    record {
-      long = length-set nodes i x ∙ g .long;
-      place = en ∙ ap (λ (k : ℕ). at + 21 * cond (eqb k 0) 1 0) ec ∙ ap (λ (k : ℕ). k + 21 * cond (eqb (linkOf bytes s i) 0) 1 0) (g .place) ∙ sym (count-more bytes s i);
-      done = λ j b.
-          ⊎-elim
-          (λ (p : j ≡ i). ap (λ (k : ℕ). nodeAt (set nodes i x) k) p ∙ getD-set-same nodes i x noNode (omega (arith, g .long)) ∙ is ∙ ap (nodeAtPlace bytes s) (sym p))
-          (λ (q : j < i). getD-set-other nodes i j x noNode (λ z. absurd (let w : j ≡ i = z in omega arith)) ∙ g .done j q)
-          (eq-or-lt-of-le (let q : j ≤ i = omega arith in q));
-      left = λ j a b. getD-set-other nodes i j x noNode (λ z. absurd (let w : j ≡ i = z in omega arith)) ∙ g .left j (omega arith) b;
-    }
-  where
-    is : x ≡ nodeAtPlace bytes s i
-    is = ex ∙ ap (nodeWith bytes at) ec ∙ ap (λ (k : ℕ). nodeWith bytes k (linkOf bytes s i)) (g .place) ∙ node-is bytes s i l
+  module _ (nodes : List Node) (at i : ℕ) where
+    pub gathered-more : (c : ℕ) (x : Node) {next : ℕ} → i < nodeCount s → s ≤ 64
+        → Gathered lay a bytes s nodes at i → c ≡ linkOf bytes (listPlace lay) s i → x ≡ nodeWith lay a bytes at c → next ≡ at + 21 * cond (carries lay c) 1 0
+        → Gathered lay a bytes s (set nodes i x) next (i + 1)
+    gathered-more c x {next} l few g ec ex en =
+        record {
+          long = length-set nodes i x ∙ g .long;
+          place = en ∙ ap (λ (k : ℕ). at + 21 * cond (carries lay k) 1 0) ec ∙ ap (λ (k : ℕ). k + 21 * cond (carriedAt lay bytes s i) 1 0) (g .place) ∙ sym (count-more i);
+          done = λ j b.
+              ⊎-elim
+              (λ (p : j ≡ i). ap (λ (k : ℕ). nodeAt (set nodes i x) k) p ∙ getD-set-same nodes i x noNode (omega (arith, g .long)) ∙ is ∙ ap (nodeAtPlace lay a bytes s) (sym p))
+              (λ (q : j < i). getD-set-other nodes i j x noNode (λ z. absurd (let w : j ≡ i = z in omega arith)) ∙ g .done j q)
+              (eq-or-lt-of-le (let q : j ≤ i = omega arith in q));
+          left = λ j d b. getD-set-other nodes i j x noNode (λ z. absurd (let w : j ≡ i = z in omega arith)) ∙ g .left j (omega arith) b;
+        }
+      where
+        is : x ≡ nodeAtPlace lay a bytes s i
+        is = ex ∙ ap (nodeWith lay a bytes at) ec ∙ ap (λ (k : ℕ). nodeWith lay a bytes k (linkOf bytes (listPlace lay) s i)) (g .place) ∙ node-is i l
 
-pub unused-is : (bytes : List ℕ) (s i : ℕ) → nodeCount s ≤ i → nodeAtPlace bytes s i ≡ blankNode
-unfolding nodeAtPlace
-unused-is bytes s i l = rw (le-ltb i (nodeCount s) l)
+    pub gathered-all : nodeCount s ≤ i → Gathered lay a bytes s nodes at i → nodes ≡ tabulate 513 (nodeAtPlace lay a bytes s)
+    gathered-all l g =
+        ext-getD noNode nodes (tabulate 513 (nodeAtPlace lay a bytes s)) (g .long ∙ sym (length-tabulate 513 (nodeAtPlace lay a bytes s)))
+        (λ j b.
+        let m : j < 513 = omega (arith, g .long) in
+        ⊎-elim (λ (p : j < i). g .done j p) (λ (q : i ≤ j). g .left j q m ∙ sym (unused-is j (omega arith))) (below-or-not j i)
+        ∙ sym (getD-tabulate 513 j (nodeAtPlace lay a bytes s) noNode m))
 
-pub gathered-all : (bytes : List ℕ) (s : ℕ) (nodes : List Node) (at i : ℕ) → nodeCount s ≤ i → Gathered bytes s nodes at i
-    → nodes ≡ tabulate 513 (nodeAtPlace bytes s)
-gathered-all bytes s nodes at i l g =
-    ext-getD noNode nodes (tabulate 513 (nodeAtPlace bytes s)) (g .long ∙ sym (length-tabulate 513 (nodeAtPlace bytes s)))
-    (λ j b.
-    let m : j < 513 = omega (arith, g .long) in
-    ⊎-elim (λ (p : j < i). g .done j p) (λ (q : i ≤ j). g .left j q m ∙ sym (unused-is bytes s j (omega arith))) (below-or-not j i)
-    ∙ sym (getD-tabulate 513 j (nodeAtPlace bytes s) noNode m))
+    -- the place of a node's payload is no further than 144 + 128 + 21 * 513
+    pub gathered-near : s ≤ 64 → i ≤ 513 → Gathered lay a bytes s nodes at i → at ≤ 11045
+    gathered-near few l g = omega (arith, g .place, ends-few lay, countBelow-le i (carriedAt lay bytes s))
 
--- the place of a node's payload is no further than 120 + 128 + 21 * 513
-pub gathered-near : (bytes : List ℕ) (s : ℕ) (nodes : List Node) (at i : ℕ) → s ≤ 64 → i ≤ 513 → Gathered bytes s nodes at i → at ≤ 11021
-gathered-near bytes s nodes at i few l g = omega (arith, g .place, countBelow-le i (leafAtPlace bytes s))
+pub child-is : (bytes cs : List ℕ) (list to s i : ℕ) → cs ≡ tabulate 513 (linkOf bytes list s) → list ≡ to → s ≤ 64 → i < nodeCount s
+    → getD cs i 0 ≡ linkOf bytes to s i
+child-is bytes cs list to s i e el few l =
+    ap (λ (r : List ℕ). getD r i 0) e ∙ getD-tabulate 513 i (linkOf bytes list s) 0 (omega arith) ∙ ap (λ (k : ℕ). linkOf bytes k s i) el
 
--- ---- a leaf or a parent
-pub leaf-read : (bytes : List ℕ) (at c : ℕ) {a : Action} {m : Bool} → c ≡ 0 → a ≡ actionAt bytes at → m ≡ flagAt bytes (at + 20)
-    → _≡_ {A = Node} (record { action = a; children = 0; optimized = m }) (nodeWith bytes at c)
-leaf-read bytes at c z p q =
-    (λ j. record { action = p j; children = 0; optimized = q j })
-    ∙ ap (λ (b : Bool). cond b (record { action = actionAt bytes at; children = 0; optimized = flagAt bytes (at + 20) }) (parentWith c)) (sym (eq-eqb c 0 z))
+-- ---- a node that is written, and one that is not
+module _ (lay : Layout) (a : Action) (bytes : List ℕ) (at c : ℕ) where
+  abbrev nodeBy : Bool → Node
+  nodeBy b =
+      cond b (record { action = actionAt bytes at; children = c; optimized = flagAt bytes (at + 20) })
+      (record { action = a; children = c; optimized = false })
 
-pub parent-read : (bytes : List ℕ) (at c : ℕ) {a : Action} → (c ≡ 0 → ⊥) → a ≡ noAction
-    → _≡_ {A = Node} (record { action = a; children = c; optimized = false }) (nodeWith bytes at c)
-parent-read bytes at c n p =
-    (λ j. record { action = p j; children = c; optimized = false })
-    ∙ ap (λ (b : Bool). cond b (record { action = actionAt bytes at; children = 0; optimized = flagAt bytes (at + 20) }) (parentWith c)) (sym (ne-eqb c 0 n))
+  pub node-read : {x : Action} {m : Bool} → carries lay c ≡ true → x ≡ actionAt bytes at → m ≡ flagAt bytes (at + 20)
+      → _≡_ {A = Node} (record { action = x; children = c; optimized = m }) (nodeWith lay a bytes at c)
+  node-read z p q = (λ j. record { action = p j; children = c; optimized = q j }) ∙ ap nodeBy (sym z)
+
+  pub node-given : carries lay c ≡ false → _≡_ {A = Node} (record { action = a; children = c; optimized = false }) (nodeWith lay a bytes at c)
+  node-given z = ap nodeBy (sym z)
+
+-- ---- the upper ends
+module _ (lay : Layout) (bytes : List ℕ) (at : ℕ) where
+  pub ends-read : {p : Point} → lay .ends ≡ true → p ≡ pointAt bytes at → p ≡ endsAt lay bytes at
+  ends-read z e = e ∙ ap (λ (b : Bool). cond b (pointAt bytes at) usualEnds) (sym z)
+
+  pub ends-given : {p : Point} → lay .ends ≡ false → p ≡ usualEnds → p ≡ endsAt lay bytes at
+  ends-given z e = e ∙ ap (λ (b : Bool). cond b (pointAt bytes at) usualEnds) (sym z)
+
+pub point-read : (bytes : List ℕ) (at : ℕ) {a s r : Float} {p : Point} → p ≡ pointOf a s r → a ≡ floatAt bytes at → s ≡ floatAt bytes (at + 8)
+    → r ≡ floatAt bytes (at + 16) → p ≡ pointAt bytes at
+point-read bytes at e x y z = e ∙ (λ j. record { «ack_ewma» = record { 0 = x j }; «send_ewma» = record { 0 = y j }; «rtt_ratio» = z j })
 
 -- ---- an action, the settings, the trainer: from their fields
 pub action-read : (bytes : List ℕ) (at : ℕ) {m d : Float} {i : ℤ} {w : ℕ} {r : Action} → r ≡ actionOf m i d → m ≡ floatAt bytes at → i ≡ toZ w32 w
@@ -192,10 +209,10 @@ settings-read bytes at a b c d e f g h k =
       «default_action» = k j;
     }
 
-pub trainer-read : (bytes : List ℕ) (s : ℕ) {a : Settings} {b : RuleTree} {c d e f h i : ℕ} {g k : Float} → a ≡ settingsAt bytes 5 → b ≡ treeAt bytes s
-    → c ≡ getD bytes (statePlace s) 0 → d ≡ numberAt bytes (statePlace s + 1) 4 → e ≡ numberAt bytes (statePlace s + 5) 4
-    → f ≡ numberAt bytes (statePlace s + 9) 2 → g ≡ floatAt bytes (statePlace s + 11) → h ≡ numberAt bytes (statePlace s + 19) 2
-    → i ≡ numberAt bytes (statePlace s + 21) 2 → k ≡ floatAt bytes (statePlace s + 23)
+pub trainer-read : (lay : Layout) (bytes : List ℕ) (s at : ℕ) {a : Settings} {b : RuleTree} {c d e f h i : ℕ} {g k : Float} → at ≡ statePlace lay s → a ≡ settingsAt bytes 5 → b ≡ treeAt lay (givenAction (settingsAt bytes 5)) bytes s
+    → c ≡ getD bytes at 0 → d ≡ numberAt bytes (at + 1) 4 → e ≡ numberAt bytes (at + 5) 4
+    → f ≡ numberAt bytes (at + 9) 2 → g ≡ floatAt bytes (at + 11) → h ≡ numberAt bytes (at + 19) 2
+    → i ≡ numberAt bytes (at + 21) 2 → k ≡ floatAt bytes (at + 23)
     → _≡_ {A = Trainer}
     (record {
       settings = a;
@@ -209,9 +226,9 @@ pub trainer-read : (bytes : List ℕ) (s : ℕ) {a : Settings} {b : RuleTree} {c
       kept = i;
       «kept_score» = k;
     })
-    (trainerAt bytes s)
-trainer-read bytes s a b c d e f g h i k =
-    λ j.
+    (trainerAt lay bytes s)
+trainer-read lay bytes s at z a b c d e f g h i k =
+    (λ j.
     record {
       settings = a j;
       tree = b j;
@@ -223,8 +240,15 @@ trainer-read bytes s a b c d e f g h i k =
       k = h j;
       kept = i j;
       «kept_score» = k j;
-    }
+    })
+    ∙ ap (stateAt (settingsAt bytes 5) (treeAt lay (givenAction (settingsAt bytes 5)) bytes s) bytes) z
 
-pub tree-read : (bytes : List ℕ) (s : ℕ) {a : List Node} {p : Point} → a ≡ treeAt bytes s .nodes → p ≡ usualEnds
-    → _≡_ {A = RuleTree} (record { nodes = a; splits = s; ends = p }) (treeAt bytes s)
-tree-read bytes s a p = λ j. record { nodes = a j; splits = s; ends = p j }
+-- the tree, with what the settings give a parent that is not written
+pub tree-given : (lay : Layout) (bytes : List ℕ) (s : ℕ) (set : Settings) (a : Action) {b : RuleTree} → set ≡ settingsAt bytes 5 → a ≡ givenAction set
+    → b ≡ treeAt lay a bytes s → b ≡ treeAt lay (givenAction (settingsAt bytes 5)) bytes s
+tree-given lay bytes s set a e ea eb =
+    eb ∙ ap (λ (x : Action). treeAt lay x bytes s) (ea ∙ ap givenAction e)
+
+pub tree-read : (lay : Layout) (a : Action) (bytes : List ℕ) (s : ℕ) {xs : List Node} {p : Point} → xs ≡ treeAt lay a bytes s .nodes → p ≡ endsAt lay bytes 118
+    → _≡_ {A = RuleTree} (record { nodes = xs; splits = s; ends = p }) (treeAt lay a bytes s)
+tree-read lay a bytes s x p = λ j. record { nodes = x j; splits = s; ends = p j }

@@ -1,6 +1,6 @@
--- How long a record is: a grown tree of s splits has 1 + 7 s leaves, and its record 172 + 149 s bytes. Assumes nothing.
+-- How long a record is, in every layout: a grown tree of s splits has 1 + 7 s leaves, and its record in version 1 has 172 + 149 s bytes. Assumes nothing.
 use mathlib.Core.Path.{_≡_, refl, sym, ap, _∙_}
-use mathlib.Core.Bool.{Bool, true, false, cond}
+use mathlib.Core.Bool.{Bool, true, false, _||_, cond}
 use mathlib.Core.List.{List, [], _∷_, _++_, append-assoc}
 use mathlib.Core.Logic.{⊎-elim}
 use Prim.Native.Nat.{ℕ, zero, suc, _+_, _*_, _%_, _<_, _≤_}
@@ -21,12 +21,15 @@ use Rattle.rule_tree.proofs.LinkWays.{children-at}
 use Rattle.rule_tree.proofs.Owners.{same-or-not}
 use Rattle.rule_tree.proofs.Links as links
 use Rattle.trainer.specs.declared.Trainer.{Trainer}
+use Rattle.record.specs.declared.inner.layout.Layout.{Layout}
 use Rattle.record.specs.Bytes.{bytesOf}
-use Rattle.record.specs.Write.{settingsBytes, splitsBytes, numbersBytes, payloadBytes, stateBytes, version, bodyOf, recordOf}
-use Rattle.record.specs.Parts.{leafFields}
+use Rattle.record.specs.Layout.{layoutOf, carries, endsSize, nodesIn, sizeIn}
+use Rattle.record.specs.Write.{settingsBytes, splitsBytes, numbersBytes, pointBytes, endBytes, nodeBytes, payloadBytes, stateBytes, version, bodyIn, recordIn, recordOf}
+use Rattle.record.specs.Parts.{nodeFields}
 use Rattle.record.proofs.Bytes.{bytes-count}
 use Rattle.record.proofs.Stores.{wrote}
-use Rattle.record.proofs.Writing.{settings-count, state-count, list-count, leaf-count}
+use Rattle.record.proofs.Layouts.{size-most, size-first}
+use Rattle.record.proofs.Writing.{settings-count, state-count, list-count, point-count}
 
 -- ---- sums over the splits
 abbrev sumBelow : ℕ → (ℕ → ℕ) → ℕ
@@ -130,6 +133,18 @@ count-tail f m (suc n) l h =
     let r = count-tail f m n b (λ i x y. h i x (omega arith)) in
     omega arith) (eq-or-lt-of-le l)
 
+count-every : (f : ℕ → Bool) (n : ℕ) → ((i : ℕ) → f i ≡ true) → countBelow n f ≡ n
+unfolding countBelow
+count-every f zero h = refl
+count-every f (suc n) h =
+    let e : _≡_ {A = ℕ} (cond (f n) 1 0) 1 = ap (λ (t : Bool). cond t 1 0) (h n) in
+    let r = count-every f n h in
+    omega arith
+
+-- whether node i of a list is written
+abbrev pub carried : Layout → List Node → ℕ → Bool
+carried lay nodes i = carries lay (nodeAt nodes i .children)
+
 module _ (t : RuleTree) (g : grownOf t ≡ true) (full : length (t .nodes) ≡ 513) where
   pub few : t .splits ≤ 64
   few = links.grown-splits t g
@@ -152,20 +167,35 @@ module _ (t : RuleTree) (g : grownOf t ≡ true) (full : length (t .nodes) ≡ 5
       (λ i x y. eq-eqb _ 0 (links.grown-unused-leaf t g i x y)) in
       omega arith
 
--- ---- the parts of a record
-leaf-length : (x : Node) → length (leafFields x) ≡ 21 * cond (eqb (x .children) 0) 1 0
-leaf-length x =
-    ⊎-elim (λ (e : x .children ≡ 0). leaf-count x e ∙ sym (ap (λ (b : Bool). 21 * cond b 1 0) (eq-eqb (x .children) 0 e)))
-    (λ (n : x .children ≡ 0 → ⊥). rw (ne-eqb (x .children) 0 n) refl)
-    (same-or-not (x .children) 0)
+  -- the nodes that a layout carries
+  pub carried-count : (lay : Layout) → countBelow (nodeCount (t .splits)) (carried lay (t .nodes)) ≡ nodesIn lay (t .splits)
+  unfolding nodesIn
+  carried-count lay = go (lay .parents)
+    where
+      go : (b : Bool) → countBelow (nodeCount (t .splits)) (λ i. b || isLeaf (t .nodes) i) ≡ cond b (1 + 8 * t .splits) (1 + 7 * t .splits)
+      go true = count-every (λ i. true) (nodeCount (t .splits)) (λ i. refl)
+      go false = leaves-count
 
-pub payload-count : (v : ℕ) (nodes : List Node) (n : ℕ) → length (payloadBytes v nodes n) ≡ 21 * countBelow n (isLeaf nodes)
+-- ---- the parts of a record
+node-length : (b : Bool) (x : Node) → length (cond b (nodeBytes x) []) ≡ 21 * cond b 1 0
+node-length true x = simp (length-append, bytes-count)
+node-length false x = refl
+
+pub payload-count : (lay : Layout) (nodes : List Node) (n : ℕ) → length (payloadBytes lay nodes n) ≡ 21 * countBelow n (carried lay nodes)
 unfolding payloadBytes countBelow
-payload-count v nodes zero = refl
-payload-count v nodes (suc n) =
-    let h = payload-count v nodes n in
-    let e = leaf-length (nodeAt nodes n) in
-    length-append (payloadBytes v nodes n) (leafFields (nodeAt nodes n)) ∙ (omega arith)
+payload-count lay nodes zero = refl
+payload-count lay nodes (suc n) =
+    let h = payload-count lay nodes n in
+    let e = node-length (carried lay nodes n) (nodeAt nodes n) in
+    length-append (payloadBytes lay nodes n) (nodeFields lay (nodeAt nodes n)) ∙ (omega arith)
+
+pub ends-count : (lay : Layout) (t : RuleTree) → length (endBytes lay t) ≡ endsSize lay
+unfolding endsSize
+ends-count lay t = go (lay .ends)
+  where
+    go : (b : Bool) → length (cond b (pointBytes (t .ends)) []) ≡ cond b 24 0
+    go true = point-count (t .ends)
+    go false = refl
 
 pub splits-count : (t : RuleTree) → t .splits ≤ 64 → length (splitsBytes t) ≡ 2 + 2 * t .splits
 splits-count t l =
@@ -175,27 +205,37 @@ splits-count t l =
     let d = length-take-le (t .splits) ps (omega arith) in
     length-append (bytesOf 2 (t .splits)) (numbersBytes (take (t .splits) ps)) ∙ omega (arith, bytes-count 2 (t .splits))
 
-joined-count : (v : ℕ) (a b c d : List ℕ) → length (v ∷ (a ++ (b ++ (c ++ d)))) ≡ 1 + (length a + (length b + (length c + length d)))
-joined-count v a b c d = simp length-append (omega arith)
+joined-count : (v : ℕ) (a b c d e : List ℕ)
+    → length (v ∷ (a ++ (b ++ (c ++ (d ++ e))))) ≡ 1 + (length a + (length b + (length c + (length d + length e))))
+joined-count v a b c d e = simp length-append (omega arith)
+
+module _ (lay : Layout) (v : ℕ) (t : Trainer) (g : grownOf (t .tree) ≡ true) (full : length (t .tree .nodes) ≡ 513) where
+  pub nodes-length : length (payloadBytes lay (t .tree .nodes) (nodeCount (t .tree .splits))) ≡ 21 * nodesIn lay (t .tree .splits)
+  nodes-length =
+      payload-count lay (t .tree .nodes) (nodeCount (t .tree .splits)) ∙ ap (λ (k : ℕ). 21 * k) (carried-count (t .tree) g full lay)
+
+  pub body-size : 4 + length (bodyIn lay v t) ≡ sizeIn lay (t .tree .splits)
+  body-size =
+      let a = settings-count (t .settings) in
+      let b = ends-count lay (t .tree) in
+      let d = splits-count (t .tree) (few (t .tree) g full) in
+      let e = nodes-length in
+      let f = state-count t in
+      let j = joined-count v (settingsBytes (t .settings)) (endBytes lay (t .tree)) (splitsBytes (t .tree)) (payloadBytes lay (t .tree .nodes) (nodeCount (t .tree .splits))) (stateBytes t) in
+      ap (λ (k : ℕ). 4 + k) j ∙ (omega arith)
+
+  pub record-size : length (recordIn lay v t) ≡ sizeIn lay (t .tree .splits)
+  unfolding recordIn
+  record-size = length-append (bytesOf 4 (length (bodyIn lay v t))) (bodyIn lay v t) ∙ ap (λ (k : ℕ). k + length (bodyIn lay v t)) (bytes-count 4 (length (bodyIn lay v t))) ∙ body-size
+
+  -- no record has more bytes than 11,076, whatever its layout
+  pub record-small : length (recordIn lay v t) ≤ 11076
+  record-small = let e = record-size in let m = size-most lay (t .tree .splits) (few (t .tree) g full) in omega arith
 
 module _ (t : Trainer) (g : grownOf (t .tree) ≡ true) (full : length (t .tree .nodes) ≡ 513) where
-  pub leaves-length : length (payloadBytes version (t .tree .nodes) (nodeCount (t .tree .splits))) ≡ 21 * (1 + 7 * t .tree .splits)
-  leaves-length =
-      payload-count version (t .tree .nodes) (nodeCount (t .tree .splits)) ∙ ap (λ (k : ℕ). 21 * k) (leaves-count (t .tree) g full)
-
-  pub body-count : length (bodyOf t) ≡ 168 + 149 * t .tree .splits
-  body-count =
-      let a = settings-count (t .settings) in
-      let b = splits-count (t .tree) (few (t .tree) g full) in
-      let d = leaves-length in
-      let e = state-count t in
-      joined-count version (settingsBytes (t .settings)) (splitsBytes (t .tree)) (payloadBytes version (t .tree .nodes) (nodeCount (t .tree .splits))) (stateBytes t)
-      ∙ (omega arith)
-
   -- a record of s splits has 172 + 149 s bytes
   pub record-count : length (recordOf t) ≡ 172 + 149 * t .tree .splits
-  unfolding recordOf
-  record-count = length-append (bytesOf 4 (length (bodyOf t))) (bodyOf t) ∙ omega (arith, bytes-count 4 (length (bodyOf t)), body-count)
+  record-count = record-size (layoutOf version) version t g full ∙ size-first (t .tree .splits)
 
   pub record-fresh : t .tree .splits ≡ 0 → length (recordOf t) ≡ 172
   record-fresh e = let h = record-count in omega arith
@@ -210,32 +250,38 @@ module _ (t : Trainer) (g : grownOf (t .tree) ≡ true) (full : length (t .tree 
 wrote0 : (l m : List ℕ) (n : ℕ) (xs ys : List ℕ) {r : List ℕ} → r ≡ sets m n ys → m ≡ sets l 0 xs → length xs ≡ n → r ≡ sets l 0 (xs ++ ys)
 wrote0 l m n xs ys q p e = wrote l m 0 n xs ys (q ∙ ap (λ (k : ℕ). sets m k ys) (let z : n ≡ 0 + n = omega arith in z)) p e
 
-regroup : (b v s p q r : List ℕ) → ((((b ++ v) ++ s) ++ p) ++ q) ++ r ≡ b ++ (v ++ (s ++ (p ++ (q ++ r))))
-regroup b v s p q r = simp append-assoc
+regroup : (b v s e p q r : List ℕ) → (((((b ++ v) ++ s) ++ e) ++ p) ++ q) ++ r ≡ b ++ (v ++ (s ++ (e ++ (p ++ (q ++ r)))))
+regroup b v s e p q r = simp append-assoc
 
-module _ (l : List ℕ) (t : Trainer) (g : grownOf (t .tree) ≡ true) (full : length (t .tree .nodes) ≡ 513) where
-  pub record-written : (n at : ℕ) {l1 l2 l3 l4 l5 : List ℕ} → n ≡ 168 + 149 * t .tree .splits → l1 ≡ sets l 0 (bytesOf 4 n)
-      → l2 ≡ sets (set l1 4 1) 5 (settingsBytes (t .settings)) → l3 ≡ sets l2 118 (splitsBytes (t .tree))
-      → l4 ≡ sets l3 (120 + 2 * t .tree .splits) (payloadBytes version (t .tree .nodes) (nodeCount (t .tree .splits)))
-      → at ≡ 120 + 2 * t .tree .splits + length (payloadBytes version (t .tree .nodes) (nodeCount (t .tree .splits)))
-      → l5 ≡ sets l4 at (stateBytes t) → l5 ≡ sets l 0 (recordOf t)
-  unfolding recordOf
-  record-written n at {l1} {l2} {l3} {l4} {l5} en p q r s ea u =
+module _ (l : List ℕ) (lay : Layout) (v : ℕ) (t : Trainer) (g : grownOf (t .tree) ≡ true) (full : length (t .tree .nodes) ≡ 513) where
+  pub record-written : (n after at : ℕ) {l1 l2 l3 l4 l5 l6 : List ℕ} → 4 + n ≡ sizeIn lay (t .tree .splits) → l1 ≡ sets l 0 (bytesOf 4 n)
+      → l2 ≡ sets (set l1 4 v) 5 (settingsBytes (t .settings)) → l3 ≡ sets l2 118 (endBytes lay (t .tree)) → after ≡ 118 + endsSize lay
+      → l4 ≡ sets l3 after (splitsBytes (t .tree))
+      → l5 ≡ sets l4 (after + 2 + 2 * t .tree .splits) (payloadBytes lay (t .tree .nodes) (nodeCount (t .tree .splits)))
+      → at ≡ after + 2 + 2 * t .tree .splits + length (payloadBytes lay (t .tree .nodes) (nodeCount (t .tree .splits)))
+      → l6 ≡ sets l5 at (stateBytes t) → l6 ≡ sets l 0 (recordIn lay v t)
+  unfolding recordIn
+  record-written n after at {l1} {l2} {l3} {l4} {l5} {l6} en p q r ef s u ea w =
       let b = bytesOf 4 n in
-      let v = version ∷ [] in
+      let o = v ∷ [] in
       let x = settingsBytes (t .settings) in
+      let d = endBytes lay (t .tree) in
       let y = splitsBytes (t .tree) in
-      let z = payloadBytes version (t .tree .nodes) (nodeCount (t .tree .splits)) in
+      let z = payloadBytes lay (t .tree .nodes) (nodeCount (t .tree .splits)) in
       let cb = bytes-count 4 n in
       let cx = settings-count (t .settings) in
+      let cd = ends-count lay (t .tree) in
       let cy = splits-count (t .tree) (few (t .tree) g full) in
-      let e1 : length (b ++ v) ≡ 5 = length-append b v ∙ (omega arith) in
-      let e2 : length ((b ++ v) ++ x) ≡ 118 = length-append (b ++ v) x ∙ (omega arith) in
-      let e3 : length (((b ++ v) ++ x) ++ y) ≡ 120 + 2 * t .tree .splits = length-append ((b ++ v) ++ x) y ∙ (omega arith) in
-      let e4 : length ((((b ++ v) ++ x) ++ y) ++ z) ≡ at = length-append (((b ++ v) ++ x) ++ y) z ∙ (omega arith) in
-      let w1 = wrote0 l l1 4 b v {r = set l1 4 1} refl p cb in
-      let w2 = wrote0 l (set l1 4 1) 5 (b ++ v) x q w1 e1 in
-      let w3 = wrote0 l l2 118 ((b ++ v) ++ x) y r w2 e2 in
-      let w4 = wrote0 l l3 (120 + 2 * t .tree .splits) (((b ++ v) ++ x) ++ y) z s w3 e3 in
-      let w5 = wrote0 l l4 at ((((b ++ v) ++ x) ++ y) ++ z) (stateBytes t) u w4 e4 in
-      w5 ∙ ap (sets l 0) (regroup b v x y z (stateBytes t)) ∙ ap (λ (k : ℕ). sets l 0 (bytesOf 4 k ++ bodyOf t)) (en ∙ sym (body-count t g full))
+      let e1 : length (b ++ o) ≡ 5 = length-append b o ∙ (omega arith) in
+      let e2 : length ((b ++ o) ++ x) ≡ 118 = length-append (b ++ o) x ∙ (omega arith) in
+      let e3 : length (((b ++ o) ++ x) ++ d) ≡ after = length-append ((b ++ o) ++ x) d ∙ (omega arith) in
+      let e4 : length ((((b ++ o) ++ x) ++ d) ++ y) ≡ after + 2 + 2 * t .tree .splits = length-append (((b ++ o) ++ x) ++ d) y ∙ (omega arith) in
+      let e5 : length (((((b ++ o) ++ x) ++ d) ++ y) ++ z) ≡ at = length-append ((((b ++ o) ++ x) ++ d) ++ y) z ∙ (omega arith) in
+      let w1 = wrote0 l l1 4 b o {r = set l1 4 v} refl p cb in
+      let w2 = wrote0 l (set l1 4 v) 5 (b ++ o) x q w1 e1 in
+      let w3 = wrote0 l l2 118 ((b ++ o) ++ x) d r w2 e2 in
+      let w4 = wrote0 l l3 after (((b ++ o) ++ x) ++ d) y s w3 e3 in
+      let w5 = wrote0 l l4 (after + 2 + 2 * t .tree .splits) ((((b ++ o) ++ x) ++ d) ++ y) z u w4 e4 in
+      let w6 = wrote0 l l5 at (((((b ++ o) ++ x) ++ d) ++ y) ++ z) (stateBytes t) w w5 e5 in
+      let size = body-size lay v t g full in
+      w6 ∙ ap (sets l 0) (regroup b o x d y z (stateBytes t)) ∙ ap (λ (k : ℕ). sets l 0 (bytesOf 4 k ++ bodyIn lay v t)) (omega arith)

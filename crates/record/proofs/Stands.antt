@@ -15,19 +15,21 @@ use mir.Val.{ofZ, toZ}
 use mir.ValLaws.{toZ-ofZ, ofZ-fits}
 use Rattle.floats.proofs.Bits.{bits-back, bits-below}
 use Rattle.remy.specs.declared.action.Action.{Action}
+use Rattle.remy.specs.declared.point.Point.{Point}
 use Rattle.rule_tree.specs.declared.Node.{Node}
 use Rattle.rule_tree.specs.Lists.{countBelow}
-use Rattle.rule_tree.specs.Nodes.{nodeAt, isLeaf}
-use Rattle.rule_tree.proofs.Plain.{ActionFits}
+use Rattle.rule_tree.specs.Nodes.{nodeAt}
+use Rattle.rule_tree.proofs.Plain.{ActionFits, PointFits}
 use Rattle.trainer.specs.declared.settings.Settings.{Settings}
+use Rattle.record.specs.declared.inner.layout.Layout.{Layout}
 use Rattle.record.specs.Bytes.{bytesOf, numberAt, flagByte}
-use Rattle.record.specs.Write.{floatBytes, actionBytes, settingsBytes, numbersBytes, nodeBytes, payloadBytes}
-use Rattle.record.specs.Read.{floatAt, actionAt, flagAt, settingsAt}
-use Rattle.record.specs.Parts.{leafFields}
+use Rattle.record.specs.Write.{floatBytes, actionBytes, settingsBytes, numbersBytes, pointBytes, nodeBytes, payloadBytes}
+use Rattle.record.specs.Read.{floatAt, actionAt, flagAt, settingsAt, pointAt}
+use Rattle.record.specs.Parts.{nodeFields}
 use Rattle.record.proofs.Bytes.{bytes-count, number-stands}
 use Rattle.record.proofs.Reading.{settings-read}
 use Rattle.record.proofs.Writing.{action-count, payload-suc}
-use Rattle.record.proofs.Size.{payload-count}
+use Rattle.record.proofs.Size.{carried, payload-count}
 
 -- the list xs stands in the bytes at a place
 pub record Stands (bytes : List ℕ) (at : ℕ) (xs : List ℕ) : Type 0 where
@@ -89,7 +91,19 @@ module _ (bytes : List ℕ) where
       let r = float-back (at + 12) (a .«intersend_delay» .0) (f .delay) h12 in
       λ j. record { «window_multiplier» = p j; «window_increment» = q j; «intersend_delay» = record { 0 = r j } }
 
-  -- ---- a list of numbers, and the leaves' part
+  pub point-back : (at : ℕ) (p : Point) → PointFits p → Stands bytes at (pointBytes p) → pointAt bytes at ≡ p
+  point-back at p f h =
+      let a = floatBytes (p .«ack_ewma» .0) in
+      let s = floatBytes (p .«send_ewma» .0) in
+      let r = floatBytes (p .«rtt_ratio») in
+      let h8 = next at 8 a (s ++ r) (bytes-count 8 _) h in
+      let h16 = onward at 8 8 16 s r (bytes-count 8 _) refl h8 in
+      let x = float-back at (p .«ack_ewma» .0) (f .acks) (first at a (s ++ r) h) in
+      let y = float-back (at + 8) (p .«send_ewma» .0) (f .sends) (first (at + 8) s r h8) in
+      let z = float-back (at + 16) (p .«rtt_ratio») (f .ratios) h16 in
+      λ j. record { «ack_ewma» = record { 0 = x j }; «send_ewma» = record { 0 = y j }; «rtt_ratio» = z j }
+
+  -- ---- a list of numbers, and the nodes' part
   pub list-stands : (at k : ℕ) (xs : List ℕ) → k < length xs → Stands bytes at (numbersBytes xs) → Stands bytes (at + 2 * k) (bytesOf 2 (getD xs k 0))
   unfolding numbersBytes
   list-stands at k [] l h = absurd (omega arith)
@@ -98,17 +112,17 @@ module _ (bytes : List ℕ) where
       moved (at + 2 + 2 * k) (at + 2 * suc k) (bytesOf 2 (getD xs k 0)) (omega arith)
       (list-stands (at + 2) k xs (omega arith) (next at 2 (bytesOf 2 x) (numbersBytes xs) (bytes-count 2 x) h))
 
-  pub leaf-stands : (v at : ℕ) (nodes : List Node) (i n : ℕ) → i < n → isLeaf nodes i ≡ true → Stands bytes at (payloadBytes v nodes n)
-      → Stands bytes (at + 21 * countBelow i (isLeaf nodes)) (nodeBytes (nodeAt nodes i))
-  leaf-stands v at nodes i zero l e h = absurd (omega arith)
-  leaf-stands v at nodes i (suc n) l e h =
-      let g = subst (Stands bytes at) (payload-suc v nodes n) h in
+  pub node-stands : (lay : Layout) (at : ℕ) (nodes : List Node) (i n : ℕ) → i < n → carried lay nodes i ≡ true → Stands bytes at (payloadBytes lay nodes n)
+      → Stands bytes (at + 21 * countBelow i (carried lay nodes)) (nodeBytes (nodeAt nodes i))
+  node-stands lay at nodes i zero l e h = absurd (omega arith)
+  node-stands lay at nodes i (suc n) l e h =
+      let g = subst (Stands bytes at) (payload-suc lay nodes n) h in
       ⊎-elim
       (λ (p : i ≡ n).
-      subst (λ (b : Bool). Stands bytes (at + 21 * countBelow i (isLeaf nodes)) (cond b (nodeBytes (nodeAt nodes i)) [])) e
-      (subst (λ (k : ℕ). Stands bytes (at + 21 * countBelow k (isLeaf nodes)) (leafFields (nodeAt nodes k))) (sym p)
-      (next at (21 * countBelow n (isLeaf nodes)) (payloadBytes v nodes n) (leafFields (nodeAt nodes n)) (payload-count v nodes n) g)))
-      (λ (q : i < n). leaf-stands v at nodes i n q e (first at (payloadBytes v nodes n) (leafFields (nodeAt nodes n)) g))
+      subst (λ (b : Bool). Stands bytes (at + 21 * countBelow i (carried lay nodes)) (cond b (nodeBytes (nodeAt nodes i)) [])) e
+      (subst (λ (k : ℕ). Stands bytes (at + 21 * countBelow k (carried lay nodes)) (nodeFields lay (nodeAt nodes k))) (sym p)
+      (next at (21 * countBelow n (carried lay nodes)) (payloadBytes lay nodes n) (nodeFields lay (nodeAt nodes n)) (payload-count lay nodes n) g)))
+      (λ (q : i < n). node-stands lay at nodes i n q e (first at (payloadBytes lay nodes n) (nodeFields lay (nodeAt nodes n)) g))
       (eq-or-lt-of-le (let q : i ≤ n = omega arith in q))
 
 -- ---- the settings

@@ -1,28 +1,30 @@
 -- What the writers store, part by part, is the record's own parts; and how long those are. Assumes nothing.
 use mathlib.Core.Path.{_≡_, refl, sym, ap, subst, _∙_}
-use mathlib.Core.Bool.{Bool, cond}
+use mathlib.Core.Bool.{Bool, true, false, cond}
 use mathlib.Core.List.{List, [], _∷_, _++_, append-assoc, append-nil}
 use mathlib.Core.Logic.{⊎-elim}
 use Prim.Native.Nat.{ℕ, zero, suc, _+_, _*_, _<_, _≤_}
 use native.Mathlib.Nat.{eq-or-lt-of-le}
 use native.Mathlib.Numerals.{add-one}
 use native.Mathlib.Omega.{arith}
-use borrow.Author.Tests.{eq-eqb, ne-eqb}
 use lib.Ieee.{binary64, toBits}
 use lib.ListN.{length, getD, set, take, length-append}
 use lib.Seq.{sets, take-suc, length-take-le}
 use mir.Syntax.{w32}
 use mir.Val.{ofZ}
 use Rattle.remy.specs.declared.action.Action.{Action}
+use Rattle.remy.specs.declared.point.Point.{Point}
 use Rattle.rule_tree.specs.declared.Node.{Node}
 use Rattle.rule_tree.specs.declared.RuleTree.{RuleTree}
 use Rattle.rule_tree.specs.Nodes.{nodeAt, childrenOf}
 use Rattle.rule_tree.specs.Cubes.{splitNodes}
 use Rattle.trainer.specs.declared.settings.Settings.{Settings}
 use Rattle.trainer.specs.declared.Trainer.{Trainer}
+use Rattle.record.specs.declared.inner.layout.Layout.{Layout}
 use Rattle.record.specs.Bytes.{bytesOf, flagByte}
-use Rattle.record.specs.Write.{actionBytes, settingsBytes, numbersBytes, splitsBytes, nodeBytes, payloadBytes, stateBytes}
-use Rattle.record.specs.Parts.{numberFields, actionFields, placeFields, trialFields, leafFields}
+use Rattle.record.specs.Layout.{carries, endsSize}
+use Rattle.record.specs.Write.{actionBytes, settingsBytes, numbersBytes, splitsBytes, pointBytes, endBytes, nodeBytes, payloadBytes, stateBytes}
+use Rattle.record.specs.Parts.{numberFields, actionFields, placeFields, trialFields, nodeFields}
 use Rattle.record.proofs.Bytes.{bytes-count}
 use Rattle.record.proofs.Stores.{wrote}
 
@@ -122,58 +124,94 @@ splits-written l at t cs ps {l1} {l2} ec ep p q =
     wrote l l1 at 2 (bytesOf 2 (t .splits)) (numbersBytes (take (t .splits) ps)) q p (bytes-count 2 (t .splits))
     ∙ ap (λ (r : List ℕ). sets l at (bytesOf 2 (t .splits) ++ numbersBytes (take (t .splits) r))) (ep ∙ ap splitNodes ec)
 
--- ---- the leaves
-pub leaf-count : (x : Node) → x .children ≡ 0 → length (leafFields x) ≡ 21
-leaf-count x e = rw (eq-eqb (x .children) 0 e) (simp (length-append, bytes-count))
+-- ---- the ends
+pub point-count : (p : Point) → length (pointBytes p) ≡ 24
+point-count p = simp (length-append, bytes-count)
 
-pub leaf-written : (l : List ℕ) (at : ℕ) (x : Node) (b : ℕ) {l1 : List ℕ} → x .children ≡ 0 → b ≡ flagByte (x .optimized) → l1 ≡ sets l at (actionBytes (x .action))
-    → (at + 21 ≡ at + length (leafFields x)) × (set l1 (at + 20) b ≡ sets l at (leafFields x))
-leaf-written l at x b {l1} e f p = (
-  ap (λ (n : ℕ). at + n) (sym (leaf-count x e)),
+pub point-written : (l : List ℕ) (at : ℕ) (p : Point) (a s r : ℕ) {l1 l2 l3 : List ℕ} → a ≡ toBits binary64 (p .«ack_ewma» .0)
+    → s ≡ toBits binary64 (p .«send_ewma» .0) → r ≡ toBits binary64 (p .«rtt_ratio»)
+    → l1 ≡ sets l at (bytesOf 8 a) → l2 ≡ sets l1 (at + 8) (bytesOf 8 s) → l3 ≡ sets l2 (at + 16) (bytesOf 8 r) → l3 ≡ sets l at (pointBytes p)
+point-written l at p a s r ea es er q u w =
+    three l at (bytesOf 8 a) (bytesOf 8 s) (bytesOf 8 r) 8 16 q u w (bytes-count 8 a) (simp (length-append, bytes-count))
+    ∙ rw (ea, es, er)
+
+pub ends-written : (l : List ℕ) (at : ℕ) (lay : Layout) (t : RuleTree) {l1 : List ℕ} → lay .ends ≡ true → l1 ≡ sets l at (pointBytes (t .ends))
+    → (at + 24 ≡ at + endsSize lay) × (l1 ≡ sets l at (endBytes lay t))
+unfolding endsSize
+ends-written l at lay t e p = (
+  ap (λ (b : Bool). at + cond b 24 0) (sym e),
+  p ∙ ap (λ (b : Bool). sets l at (cond b (pointBytes (t .ends)) [])) (sym e),
+)
+
+pub ends-skipped : (l : List ℕ) (at : ℕ) (lay : Layout) (t : RuleTree) → lay .ends ≡ false
+    → (at ≡ at + endsSize lay) × (l ≡ sets l at (endBytes lay t))
+unfolding endsSize
+ends-skipped l at lay t e = (
+  (let z : at ≡ at + 0 = omega arith in z) ∙ ap (λ (b : Bool). at + cond b 24 0) (sym e),
+  ap (λ (b : Bool). sets l at (cond b (pointBytes (t .ends)) [])) (sym e),
+)
+
+-- the bytes that are needed at a place for the ends
+pub ends-room : (lay : Layout) → lay .ends ≡ true → endsSize lay ≡ 24
+unfolding endsSize
+ends-room lay e = ap (λ (b : Bool). cond b 24 0) e
+
+-- ---- the nodes
+pub node-count : (lay : Layout) (x : Node) → carries lay (x .children) ≡ true → length (nodeFields lay x) ≡ 21
+node-count lay x e = ap (λ (b : Bool). length (cond b (nodeBytes x) [])) e ∙ simp (length-append, bytes-count)
+
+pub node-written : (l : List ℕ) (at : ℕ) (lay : Layout) (x : Node) (b : ℕ) {l1 : List ℕ} → carries lay (x .children) ≡ true → b ≡ flagByte (x .optimized)
+    → l1 ≡ sets l at (actionBytes (x .action)) → (at + 21 ≡ at + length (nodeFields lay x)) × (set l1 (at + 20) b ≡ sets l at (nodeFields lay x))
+node-written l at lay x b {l1} e f p = (
+  ap (λ (n : ℕ). at + n) (sym (node-count lay x e)),
   wrote l l1 at 20 (actionBytes (x .action)) (b ∷ []) refl p (action-count (x .action))
       ∙ ap (λ (k : ℕ). sets l at (actionBytes (x .action) ++ (k ∷ []))) f
-      ∙ ap (λ (t : Bool). sets l at (cond t (nodeBytes x) [])) (sym (eq-eqb (x .children) 0 e)),
+      ∙ ap (λ (t : Bool). sets l at (cond t (nodeBytes x) [])) (sym e),
 )
 
-pub leaf-skipped : (l : List ℕ) (at : ℕ) (x : Node) → (x .children ≡ 0 → ⊥) → (at ≡ at + length (leafFields x)) × (l ≡ sets l at (leafFields x))
-leaf-skipped l at x n = (rw (ne-eqb (x .children) 0 n) (omega arith), rw (ne-eqb (x .children) 0 n) refl)
+pub node-skipped : (l : List ℕ) (at : ℕ) (lay : Layout) (x : Node) → carries lay (x .children) ≡ false
+    → (at ≡ at + length (nodeFields lay x)) × (l ≡ sets l at (nodeFields lay x))
+node-skipped l at lay x e = (
+  (let z : at ≡ at + 0 = omega arith in z) ∙ ap (λ (b : Bool). at + length (cond b (nodeBytes x) [])) (sym e),
+  ap (λ (b : Bool). sets l at (cond b (nodeBytes x) [])) (sym e),
+)
 
-pub payload-suc : (v : ℕ) (nodes : List Node) (i : ℕ) → payloadBytes v nodes (suc i) ≡ payloadBytes v nodes i ++ leafFields (nodeAt nodes i)
+pub payload-suc : (lay : Layout) (nodes : List Node) (i : ℕ) → payloadBytes lay nodes (suc i) ≡ payloadBytes lay nodes i ++ nodeFields lay (nodeAt nodes i)
 unfolding payloadBytes
-payload-suc v nodes i = refl
+payload-suc lay nodes i = refl
 
--- the first n nodes' leaves, and one more node
-pub payload-more : (v : ℕ) (nodes : List Node) (i : ℕ) → payloadBytes v nodes (i + 1) ≡ payloadBytes v nodes i ++ leafFields (nodeAt nodes i)
-payload-more v nodes i = ap (payloadBytes v nodes) (add-one i) ∙ payload-suc v nodes i
+-- the first n nodes' part, and one more node
+pub payload-more : (lay : Layout) (nodes : List Node) (i : ℕ) → payloadBytes lay nodes (i + 1) ≡ payloadBytes lay nodes i ++ nodeFields lay (nodeAt nodes i)
+payload-more lay nodes i = ap (payloadBytes lay nodes) (add-one i) ∙ payload-suc lay nodes i
 
-pub payload-grows : (v : ℕ) (nodes : List Node) (i n : ℕ) → i < n
-    → length (payloadBytes v nodes i) + length (leafFields (nodeAt nodes i)) ≤ length (payloadBytes v nodes n)
-payload-grows v nodes i zero l = absurd (omega arith)
-payload-grows v nodes i (suc n) l =
-    let more = ap length (payload-suc v nodes n) ∙ length-append (payloadBytes v nodes n) (leafFields (nodeAt nodes n)) in
-    ⊎-elim (λ (p : i ≡ n). subst (λ (k : ℕ). length (payloadBytes v nodes k) + length (leafFields (nodeAt nodes k)) ≤ length (payloadBytes v nodes (suc n))) (sym p) (omega arith))
-    (λ (q : i < n). let h = payload-grows v nodes i n q in omega arith)
+pub payload-grows : (lay : Layout) (nodes : List Node) (i n : ℕ) → i < n
+    → length (payloadBytes lay nodes i) + length (nodeFields lay (nodeAt nodes i)) ≤ length (payloadBytes lay nodes n)
+payload-grows lay nodes i zero l = absurd (omega arith)
+payload-grows lay nodes i (suc n) l =
+    let more = ap length (payload-suc lay nodes n) ∙ length-append (payloadBytes lay nodes n) (nodeFields lay (nodeAt nodes n)) in
+    ⊎-elim (λ (p : i ≡ n). subst (λ (k : ℕ). length (payloadBytes lay nodes k) + length (nodeFields lay (nodeAt nodes k)) ≤ length (payloadBytes lay nodes (suc n))) (sym p) (omega arith))
+    (λ (q : i < n). let h = payload-grows lay nodes i n q in omega arith)
     (eq-or-lt-of-le (let q : i ≤ n = omega arith in q))
 
-pub leaves-none : (l : List ℕ) (at v : ℕ) (nodes : List Node) → (at ≡ at + length (payloadBytes v nodes 0)) × (l ≡ sets l at (payloadBytes v nodes 0))
+pub nodes-none : (l : List ℕ) (at : ℕ) (lay : Layout) (nodes : List Node) → (at ≡ at + length (payloadBytes lay nodes 0)) × (l ≡ sets l at (payloadBytes lay nodes 0))
 unfolding payloadBytes
-leaves-none l at v nodes = (omega arith, refl)
+nodes-none l at lay nodes = (omega arith, refl)
 
-pub leaves-turn : (l : List ℕ) (at v : ℕ) (nodes : List Node) (i next : ℕ) {r : ℕ} {l1 l2 : List ℕ} → next ≡ at + length (payloadBytes v nodes i)
-    → l1 ≡ sets l at (payloadBytes v nodes i) → r ≡ next + length (leafFields (nodeAt nodes i)) → l2 ≡ sets l1 next (leafFields (nodeAt nodes i))
-    → (r ≡ at + length (payloadBytes v nodes (i + 1))) × (l2 ≡ sets l at (payloadBytes v nodes (i + 1)))
-leaves-turn l at v nodes i next {r} {l1} {l2} e p f q = (
-  (let more = ap length (payload-more v nodes i) ∙ length-append (payloadBytes v nodes i) (leafFields (nodeAt nodes i)) in omega arith),
-  wrote l l1 at (length (payloadBytes v nodes i)) (payloadBytes v nodes i) (leafFields (nodeAt nodes i))
-      (q ∙ ap (λ (k : ℕ). sets l1 k (leafFields (nodeAt nodes i))) e) p refl
-      ∙ ap (sets l at) (sym (payload-more v nodes i)),
+pub nodes-turn : (l : List ℕ) (at : ℕ) (lay : Layout) (nodes : List Node) (i next : ℕ) {r : ℕ} {l1 l2 : List ℕ} → next ≡ at + length (payloadBytes lay nodes i)
+    → l1 ≡ sets l at (payloadBytes lay nodes i) → r ≡ next + length (nodeFields lay (nodeAt nodes i)) → l2 ≡ sets l1 next (nodeFields lay (nodeAt nodes i))
+    → (r ≡ at + length (payloadBytes lay nodes (i + 1))) × (l2 ≡ sets l at (payloadBytes lay nodes (i + 1)))
+nodes-turn l at lay nodes i next {r} {l1} {l2} e p f q = (
+  (let more = ap length (payload-more lay nodes i) ∙ length-append (payloadBytes lay nodes i) (nodeFields lay (nodeAt nodes i)) in omega arith),
+  wrote l l1 at (length (payloadBytes lay nodes i)) (payloadBytes lay nodes i) (nodeFields lay (nodeAt nodes i))
+      (q ∙ ap (λ (k : ℕ). sets l1 k (nodeFields lay (nodeAt nodes i))) e) p refl
+      ∙ ap (sets l at) (sym (payload-more lay nodes i)),
 )
 
-pub leaves-done : (l m : List ℕ) (at v : ℕ) (nodes : List Node) (i n next : ℕ) → i ≤ n → n ≤ i → next ≡ at + length (payloadBytes v nodes i)
-    → m ≡ sets l at (payloadBytes v nodes i) → (next ≡ at + length (payloadBytes v nodes n)) × (m ≡ sets l at (payloadBytes v nodes n))
-leaves-done l m at v nodes i n next a b e p =
+pub nodes-done : (l m : List ℕ) (at : ℕ) (lay : Layout) (nodes : List Node) (i n next : ℕ) → i ≤ n → n ≤ i → next ≡ at + length (payloadBytes lay nodes i)
+    → m ≡ sets l at (payloadBytes lay nodes i) → (next ≡ at + length (payloadBytes lay nodes n)) × (m ≡ sets l at (payloadBytes lay nodes n))
+nodes-done l m at lay nodes i n next a b e p =
     let q : i ≡ n = omega arith in
-    (e ∙ ap (λ (k : ℕ). at + length (payloadBytes v nodes k)) q, p ∙ ap (λ (k : ℕ). sets l at (payloadBytes v nodes k)) q)
+    (e ∙ ap (λ (k : ℕ). at + length (payloadBytes lay nodes k)) q, p ∙ ap (λ (k : ℕ). sets l at (payloadBytes lay nodes k)) q)
 
 -- ---- the state
 pub place-written : (l : List ℕ) (at : ℕ) (t : Trainer) {l1 l2 l3 : List ℕ} → l1 ≡ sets (set l at (t .phase)) (at + 1) (bytesOf 4 (t .stage))

@@ -1,9 +1,9 @@
 -- What save and load answer, refusals first and in 01's order.
-use mathlib.Core.Bool.{Bool, true, false, not, _&&_, _||_, cond}
+use mathlib.Core.Bool.{Bool, not, _&&_}
 use mathlib.Core.List.{List, [], _∷_, _++_}
 use Prim.Native.Nat.{ℕ, _+_, _-_}
-use lib.ListN.{length, drop, getD}
-use lib.Dec.{eqb, ltb, leb}
+use lib.ListN.{length, drop}
+use lib.Dec.{eqb, leb}
 use Rattle.quantities.specs.Guards.{test, guarded}
 use Rattle.trainer.specs.declared.Trainer.{Trainer}
 use Rattle.trainer.specs.declared.Answered.{Answered}
@@ -13,8 +13,9 @@ use Rattle.trainer.specs.Calls.{blankTrainer}
 use Rattle.record.specs.declared.Saved.{Saved}
 use Rattle.record.specs.declared.Saved.the-variants.{Size, Refused}
 use Rattle.record.specs.Bytes.{numberAt, sameBytes}
-use Rattle.record.specs.Write.{recordOf, version}
-use Rattle.record.specs.Read.{readOf}
+use Rattle.record.specs.Layout.{layoutOf, knownOf}
+use Rattle.record.specs.Write.{recordIn, recordOf}
+use Rattle.record.specs.Read.{versionAt, readOf}
 
 -- save: 10, 9
 unfoldable pub saveOf : Trainer → List ℕ → Saved
@@ -33,11 +34,15 @@ lengthHolds bytes =
 
 -- "7 no version byte, or unknown"
 unfoldable pub versionHolds : List ℕ → Bool
-versionHolds bytes = leb 5 (length bytes) && eqb (getD bytes 4 0) version
+versionHolds bytes = leb 5 (length bytes) && knownOf (versionAt bytes)
+
+-- what the trainer that the bytes stand for is written as in their own version
+abbrev pub againOf : List ℕ → List ℕ
+againOf bytes = recordIn (layoutOf (versionAt bytes)) (versionAt bytes) (readOf bytes)
 
 -- the bytes are the record of an accepted trainer: "8 any other field, or bytes that end early or run on for the split count"
 unfoldable pub bodyHolds : List ℕ → Bool
-bodyHolds bytes = acceptedOf (readOf bytes) && sameBytes (recordOf (readOf bytes)) bytes
+bodyHolds bytes = acceptedOf (readOf bytes) && sameBytes (againOf bytes) bytes
 
 -- load: 6, 7, 8
 unfoldable pub loadOf : List ℕ → Answered

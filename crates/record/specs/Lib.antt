@@ -1,4 +1,5 @@
 pub mod Bytes
+pub mod Layout
 pub mod Write
 pub mod Read
 pub mod Calls

@@ -1,18 +1,18 @@
 -- What the private functions of the code are held to: parts of the record, as it is written and read.
 use mathlib.Core.Bool.{cond}
 use mathlib.Core.List.{List, [], _∷_, _++_}
-use Prim.Native.Nat.{ℕ, _+_}
-use lib.Dec.{eqb}
+use Prim.Native.Nat.{ℕ}
 use Rattle.rule_tree.specs.declared.Node.{Node}
-use Rattle.rule_tree.specs.Nodes.{parentWith}
 use Rattle.trainer.specs.declared.settings.Settings.{Settings}
 use Rattle.trainer.specs.declared.Trainer.{Trainer}
 use Rattle.trainer.specs.declared.Answered.{Answered}
 use Rattle.trainer.specs.Phases.{refuse, taken}
 use Rattle.trainer.specs.Calls.{blankTrainer}
+use Rattle.record.specs.declared.inner.layout.Layout.{Layout}
 use Rattle.record.specs.Bytes.{bytesOf, flagByte}
+use Rattle.record.specs.Layout.{carries}
 use Rattle.record.specs.Write.{floatBytes, actionBytes, nodeBytes}
-use Rattle.record.specs.Read.{actionAt, flagAt, readOf}
+use Rattle.record.specs.Read.{readOf}
 use Rattle.record.specs.Calls.{bodyHolds}
 
 -- the settings' numbers and drill, and their actions
@@ -32,14 +32,9 @@ placeFields t = t .phase ∷ (bytesOf 4 (t .stage) ++ (bytesOf 4 (t .round) ++ b
 abbrev pub trialFields : Trainer → List ℕ
 trialFields t = floatBytes (t .best) ++ (bytesOf 2 (t .k) ++ (bytesOf 2 (t .kept) ++ floatBytes (t .«kept_score»)))
 
--- what a node adds to the leaves' part
-abbrev pub leafFields : Node → List ℕ
-leafFields x = cond (eqb (x .children) 0) (nodeBytes x) []
-
--- the node with the first child c whose payload would stand at place at
-abbrev pub nodeWith : List ℕ → ℕ → ℕ → Node
-nodeWith bytes at c =
-    cond (eqb c 0) (record { action = actionAt bytes at; children = 0; optimized = flagAt bytes (at + 20) }) (parentWith c)
+-- what a node adds to the nodes' part
+abbrev pub nodeFields : Layout → Node → List ℕ
+nodeFields l x = cond (carries l (x .children)) (nodeBytes x) []
 
 -- what load answers once the length and the version hold
 abbrev pub bodyTaken : List ℕ → Answered

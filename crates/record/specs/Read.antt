@@ -1,5 +1,5 @@
 -- The trainer that the bytes of a record stand for, field by field at its place.
-use mathlib.Core.Bool.{Bool, true, false, _&&_, cond}
+use mathlib.Core.Bool.{Bool, false, cond}
 use mathlib.Core.List.{List}
 use Prim.Native.Nat.{ℕ, zero, suc, _+_, _*_}
 use lib.ListN.{getD}
@@ -9,14 +9,17 @@ use mir.Syntax.{w32}
 use mir.Val.{toZ}
 use Rattle.remy.specs.declared.action.Action.{Action}
 use Rattle.remy.specs.Action.{actionOf}
-use Rattle.remy.specs.Cube.{usualEnds}
+use Rattle.remy.specs.declared.point.Point.{Point}
+use Rattle.remy.specs.Cube.{pointOf, usualEnds}
 use Rattle.rule_tree.specs.declared.Node.{Node}
 use Rattle.rule_tree.specs.declared.RuleTree.{RuleTree}
 use Rattle.rule_tree.specs.Lists.{tabulate, countBelow}
-use Rattle.rule_tree.specs.Nodes.{nodeCount, parentWith, blankNode}
+use Rattle.rule_tree.specs.Nodes.{nodeCount, blankNode}
 use Rattle.trainer.specs.declared.settings.Settings.{Settings}
 use Rattle.trainer.specs.declared.Trainer.{Trainer}
+use Rattle.record.specs.declared.inner.layout.Layout.{Layout}
 use Rattle.record.specs.Bytes.{numberAt}
+use Rattle.record.specs.Layout.{layoutOf, carries, givenAction, endsSize, listPlace, nodesPlace, statePlace}
 
 abbrev pub floatAt : List ℕ → ℕ → Float
 floatAt bytes at = ofBits binary64 (numberAt bytes at 8)
@@ -41,47 +44,53 @@ settingsAt bytes at =
       «default_action» = actionAt bytes (at + 93);
     }
 
--- the split count, and the node of split k
-abbrev pub splitCount : List ℕ → ℕ
-splitCount bytes = numberAt bytes 118 2
+-- the upper ends that stand at a place, or the usual ones
+abbrev pub pointAt : List ℕ → ℕ → Point
+pointAt bytes at = pointOf (floatAt bytes at) (floatAt bytes (at + 8)) (floatAt bytes (at + 16))
 
-abbrev pub splitAtPlace : List ℕ → ℕ → ℕ
-splitAtPlace bytes k = numberAt bytes (120 + 2 * k) 2
+abbrev pub endsAt : Layout → List ℕ → ℕ → Point
+endsAt l bytes at = cond (l .ends) (pointAt bytes at) usualEnds
+
+-- the split count, and the node of split k in the list at place list
+abbrev pub splitCount : Layout → List ℕ → ℕ
+splitCount l bytes = numberAt bytes (118 + endsSize l) 2
+
+abbrev pub splitAtPlace : List ℕ → ℕ → ℕ → ℕ
+splitAtPlace bytes list k = numberAt bytes (list + 2 * k) 2
 
 -- the first child of node i after the first s splits, 0 for a leaf
-unfoldable pub linkOf : List ℕ → ℕ → ℕ → ℕ
-linkOf bytes zero i = 0
-linkOf bytes (suc s) i = cond (eqb (splitAtPlace bytes s) i) (8 * s + 1) (linkOf bytes s i)
+unfoldable pub linkOf : List ℕ → ℕ → ℕ → ℕ → ℕ
+linkOf bytes list zero i = 0
+linkOf bytes list (suc s) i = cond (eqb (splitAtPlace bytes list s) i) (8 * s + 1) (linkOf bytes list s i)
 
-abbrev pub leafAtPlace : List ℕ → ℕ → ℕ → Bool
-leafAtPlace bytes s i = eqb (linkOf bytes s i) 0
+-- whether node i is written, and where: after those below it
+abbrev pub carriedAt : Layout → List ℕ → ℕ → ℕ → Bool
+carriedAt l bytes s i = carries l (linkOf bytes (listPlace l) s i)
 
--- where the payload of leaf i stands: after those of the leaves below it
-abbrev pub payloadPlace : List ℕ → ℕ → ℕ → ℕ
-payloadPlace bytes s i = 120 + 2 * s + 21 * countBelow i (leafAtPlace bytes s)
+abbrev pub payloadPlace : Layout → List ℕ → ℕ → ℕ → ℕ
+payloadPlace l bytes s i = nodesPlace l s + 21 * countBelow i (carriedAt l bytes s)
 
-unfoldable pub nodeAtPlace : List ℕ → ℕ → ℕ → Node
+-- the node with the first child c: what stands at place at, or, where the layout does not carry it, the action a, unmarked
+abbrev pub nodeWith : Layout → Action → List ℕ → ℕ → ℕ → Node
+nodeWith l a bytes at c =
+    cond (carries l c)
+    (record { action = actionAt bytes at; children = c; optimized = flagAt bytes (at + 20) })
+    (record { action = a; children = c; optimized = false })
+
+unfoldable pub nodeAtPlace : Layout → Action → List ℕ → ℕ → ℕ → Node
 unfolding linkOf
-nodeAtPlace bytes s i =
-    cond (ltb i (nodeCount s))
-    (cond (leafAtPlace bytes s i)
-    (record { action = actionAt bytes (payloadPlace bytes s i); children = 0; optimized = flagAt bytes (payloadPlace bytes s i + 20) })
-    (parentWith (linkOf bytes s i)))
-    blankNode
+nodeAtPlace l a bytes s i =
+    cond (ltb i (nodeCount s)) (nodeWith l a bytes (payloadPlace l bytes s i) (linkOf bytes (listPlace l) s i)) blankNode
 
-abbrev pub treeAt : List ℕ → ℕ → RuleTree
-treeAt bytes s = record { nodes = tabulate 513 (nodeAtPlace bytes s); splits = s; ends = usualEnds }
+abbrev pub treeAt : Layout → Action → List ℕ → ℕ → RuleTree
+treeAt l a bytes s = record { nodes = tabulate 513 (nodeAtPlace l a bytes s); splits = s; ends = endsAt l bytes 118 }
 
--- where the state stands: after 1 + 7 s payloads of 21 bytes
-abbrev pub statePlace : ℕ → ℕ
-statePlace s = 120 + 2 * s + 21 * (1 + 7 * s)
-
-abbrev pub trainerAt : List ℕ → ℕ → Trainer
-trainerAt bytes s =
-    let at = statePlace s in
+-- the trainer with these settings and this tree whose state stands at place at
+abbrev pub stateAt : Settings → RuleTree → List ℕ → ℕ → Trainer
+stateAt s t bytes at =
     record {
-      settings = settingsAt bytes 5;
-      tree = treeAt bytes s;
+      settings = s;
+      tree = t;
       phase = getD bytes at 0;
       stage = numberAt bytes (at + 1) 4;
       round = numberAt bytes (at + 5) 4;
@@ -92,5 +101,16 @@ trainerAt bytes s =
       «kept_score» = floatAt bytes (at + 23);
     }
 
+abbrev pub trainerAt : Layout → List ℕ → ℕ → Trainer
+trainerAt l bytes s =
+    stateAt (settingsAt bytes 5) (treeAt l (givenAction (settingsAt bytes 5)) bytes s) bytes (statePlace l s)
+
+abbrev pub readIn : Layout → List ℕ → Trainer
+readIn l bytes = trainerAt l bytes (splitCount l bytes)
+
+-- the version byte, and the trainer that the bytes stand for in that version's layout
+abbrev pub versionAt : List ℕ → ℕ
+versionAt bytes = getD bytes 4 0
+
 abbrev pub readOf : List ℕ → Trainer
-readOf bytes = trainerAt bytes (splitCount bytes)
+readOf bytes = readIn (layoutOf (versionAt bytes)) bytes

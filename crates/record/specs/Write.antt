@@ -1,5 +1,5 @@
 -- 01, "The record": the bytes that a trainer is saved as.
-use mathlib.Core.Bool.{Bool, true, false, cond}
+use mathlib.Core.Bool.{cond}
 use mathlib.Core.List.{List, [], _∷_, _++_}
 use Prim.Native.Nat.{ℕ, zero, suc, _+_}
 use lib.ListN.{length, take}
@@ -7,13 +7,16 @@ use lib.Ieee.{Float, binary64, toBits}
 use mir.Syntax.{w32}
 use mir.Val.{ofZ}
 use Rattle.remy.specs.declared.action.Action.{Action}
+use Rattle.remy.specs.declared.point.Point.{Point}
 use Rattle.rule_tree.specs.declared.Node.{Node}
 use Rattle.rule_tree.specs.declared.RuleTree.{RuleTree}
-use Rattle.rule_tree.specs.Nodes.{nodeAt, isLeaf, nodeCount, childrenOf}
+use Rattle.rule_tree.specs.Nodes.{nodeAt, nodeCount, childrenOf}
 use Rattle.rule_tree.specs.Cubes.{splitNodes}
 use Rattle.trainer.specs.declared.settings.Settings.{Settings}
 use Rattle.trainer.specs.declared.Trainer.{Trainer}
+use Rattle.record.specs.declared.inner.layout.Layout.{Layout}
 use Rattle.record.specs.Bytes.{bytesOf, flagByte}
+use Rattle.record.specs.Layout.{layoutOf, carries}
 
 abbrev pub floatBytes : Float → List ℕ
 floatBytes x = bytesOf 8 (toBits binary64 x)
@@ -39,24 +42,23 @@ numbersBytes (x ∷ xs) = bytesOf 2 x ++ numbersBytes xs
 abbrev pub splitsBytes : RuleTree → List ℕ
 splitsBytes t = bytesOf 2 (t .splits) ++ numbersBytes (take (t .splits) (splitNodes (childrenOf (t .nodes))))
 
--- which nodes a version of the record writes: version 1 the leaves
-abbrev pub written : ℕ → List Node → ℕ → Bool
-written version nodes i = isLeaf nodes i
-
 -- "its action and mark byte"
 abbrev pub nodeBytes : Node → List ℕ
 nodeBytes x = actionBytes (x .action) ++ (flagByte (x .optimized) ∷ [])
 
--- "per leaf by rising node": the first n nodes
-unfoldable pub payloadBytes : ℕ → List Node → ℕ → List ℕ
+-- by rising node, those of the first n that the layout carries: in version 1 "per leaf by rising node"
+unfoldable pub payloadBytes : Layout → List Node → ℕ → List ℕ
 unfolding bytesOf
-payloadBytes version nodes zero = []
-payloadBytes version nodes (suc n) =
-    payloadBytes version nodes n ++ cond (written version nodes n) (nodeBytes (nodeAt nodes n)) []
+payloadBytes l nodes zero = []
+payloadBytes l nodes (suc n) =
+    payloadBytes l nodes n ++ cond (carries l (nodeAt nodes n .children)) (nodeBytes (nodeAt nodes n)) []
 
--- which bytes of the upper ends follow the actions: in version 1 none
-abbrev pub endBytes : ℕ → RuleTree → List ℕ
-endBytes version t = []
+-- the upper ends, ack, send, ratio, where the layout has them
+abbrev pub pointBytes : Point → List ℕ
+pointBytes p = floatBytes (p .«ack_ewma» .0) ++ (floatBytes (p .«send_ewma» .0) ++ floatBytes (p .«rtt_ratio»))
+
+abbrev pub endBytes : Layout → RuleTree → List ℕ
+endBytes l t = cond (l .ends) (pointBytes (t .ends)) []
 
 -- "phase byte; u32 stage, round; u16 leaf; best 8; u16 k; u16 kept (65535 none); kept's score 8"
 abbrev pub stateBytes : Trainer → List ℕ
@@ -64,16 +66,23 @@ stateBytes t =
     t .phase ∷ (bytesOf 4 (t .stage) ++ (bytesOf 4 (t .round) ++ (bytesOf 2 (t .leaf) ++ (
     floatBytes (t .best) ++ (bytesOf 2 (t .k) ++ (bytesOf 2 (t .kept) ++ floatBytes (t .«kept_score»)))))))
 
--- "version byte 1"
+-- the version byte and all that follows it, in a layout
+abbrev pub bodyIn : Layout → ℕ → Trainer → List ℕ
+bodyIn l v t =
+    v ∷ (settingsBytes (t .settings) ++ (endBytes l (t .tree) ++ (splitsBytes (t .tree) ++ (
+    payloadBytes l (t .tree .nodes) (nodeCount (t .tree .splits)) ++ stateBytes t))))
+
+-- "u32 length of all that follows"
+unfoldable pub recordIn : Layout → ℕ → Trainer → List ℕ
+unfolding bytesOf numbersBytes payloadBytes
+recordIn l v t = bytesOf 4 (length (bodyIn l v t)) ++ bodyIn l v t
+
+-- "version byte 1": what is saved
 abbrev pub version : ℕ
 version = 1
 
 abbrev pub bodyOf : Trainer → List ℕ
-bodyOf t =
-    version ∷ (settingsBytes (t .settings) ++ (endBytes version (t .tree) ++ (splitsBytes (t .tree) ++ (
-    payloadBytes version (t .tree .nodes) (nodeCount (t .tree .splits)) ++ stateBytes t))))
+bodyOf t = bodyIn (layoutOf version) version t
 
--- "u32 length of all that follows"
-unfoldable pub recordOf : Trainer → List ℕ
-unfolding bytesOf numbersBytes payloadBytes
-recordOf t = bytesOf 4 (length (bodyOf t)) ++ bodyOf t
+abbrev pub recordOf : Trainer → List ℕ
+recordOf t = recordIn (layoutOf version) version t

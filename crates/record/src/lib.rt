@@ -2,6 +2,7 @@
 ghost use mathlib.Core.Path.{_≡_};
 ghost use Rattle.record.specs.Calls.{saveOf, bufferAfter, loadOf};
 use crate::inner::body;
+use crate::inner::layout;
 use crate::inner::read;
 use crate::inner::write;
 use trainer::Answered;
@@ -20,9 +21,10 @@ pub fn save(t: Trainer, buf: &mut [u8]) -> Saved
 {
     if t.accepted() {
         let tree = t.tree;
-        let size = write::size_of(tree);
+        let l = layout::of_version(1);
+        let size = layout::size(l, tree.splits);
         if size <= buf.len() {
-            write::write(buf, t);
+            write::write(buf, l, 1, t);
             return Saved::Size(size);
         }
         return Saved::Refused(9);

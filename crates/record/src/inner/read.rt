@@ -2,15 +2,16 @@
 ghost use mathlib.Core.Path.{_≡_};
 ghost use mathlib.Core.Bool.{cond};
 ghost use Prim.Native.Nat.{_+_, _*_, _^_, _≤_, _<_};
-ghost use lib.Dec.{eqb};
 ghost use lib.ListN.{length, getD};
 ghost use mir.Syntax.{w32};
 ghost use mir.Val.{toZ};
 ghost use Rattle.rule_tree.specs.Lists.{tabulate};
 ghost use Rattle.record.specs.Bytes.{numberAt, sameBytes};
-ghost use Rattle.record.specs.Read.{floatAt, actionAt, flagAt, settingsAt, linkOf, treeAt, trainerAt};
-ghost use Rattle.record.specs.Parts.{nodeWith};
+ghost use Rattle.record.specs.Layout.{carries};
+ghost use Rattle.record.specs.Read.{floatAt, actionAt, flagAt, settingsAt, pointAt, endsAt, splitCount, linkOf, nodeWith, treeAt, trainerAt};
 ghost use Rattle.record.specs.Calls.{lengthHolds, versionHolds};
+use crate::inner::layout;
+use crate::inner::layout::Layout;
 use remy::action::Action;
 use remy::point::Point;
 use rule_tree::Node;
@@ -118,15 +119,43 @@ pub fn settings_at(bytes: &[u8], at: usize) -> Settings
     }
 }
 
-// Each node's first child after s splits, 0 for a leaf.
-fn links_at(bytes: &[u8], s: u16) -> [u16; 513]
-    requires { ⌜ s ≤ 64 ⌝ }
-    ensures { λ r. ⌜ r ≡ tabulate 513 (linkOf (now (bytes .entry)) s) ⌝ }
+fn point_at(bytes: &[u8], at: usize) -> Point
+    requires { ⌜ at ≤ 65000 ⌝ }
+    ensures { λ r. ⌜ r ≡ pointAt (now (bytes .entry)) at ⌝ }
+{
+    let ack = float_at(bytes, at);
+    let send = float_at(bytes, at + 8);
+    let ratio = float_at(bytes, at + 16);
+    Point::new(ack, send, ratio)
+}
+
+// The upper ends that stand at place at, or the usual ones.
+fn ends_at(bytes: &[u8], l: Layout, at: usize) -> Point
+    requires { ⌜ at ≤ 65000 ⌝ }
+    ensures { λ r. ⌜ r ≡ endsAt l (now (bytes .entry)) at ⌝ }
+{
+    if l.ends {
+        return point_at(bytes, at);
+    }
+    Point::usual_ends()
+}
+
+pub fn split_count(bytes: &[u8], l: Layout) -> u16
+    ensures { λ r. ⌜ r ≡ splitCount l (now (bytes .entry)) ⌝ }
+{
+    let skipped = layout::ends_size(l);
+    short_at(bytes, 118 + skipped)
+}
+
+// Each node's first child after the s splits whose nodes stand at place list, 0 for a leaf.
+fn links_at(bytes: &[u8], list: usize, s: u16) -> [u16; 513]
+    requires { ⌜ (s ≤ 64) × (list ≤ 60000) ⌝ }
+    ensures { λ r. ⌜ r ≡ tabulate 513 (linkOf (now (bytes .entry)) list s) ⌝ }
 {
     let mut out = [0u16; 513];
     let mut k: u16 = 0;
     while k < s {
-        let node = short_at(bytes, 120 + 2 * (k as usize)) as usize;
+        let node = short_at(bytes, list + 2 * (k as usize)) as usize;
         if node < 513 {
             out[node] = 8 * k + 1;
         }
@@ -135,41 +164,45 @@ fn links_at(bytes: &[u8], s: u16) -> [u16; 513]
     out
 }
 
-// A leaf whose payload stands at place at, or a parent whose first child is c.
-fn node_with(bytes: &[u8], at: usize, c: u16) -> Node
+// The node with the first child c: what stands at place at, or a parent with the action a, unmarked, where it is not written.
+fn node_with(bytes: &[u8], l: Layout, a: Action, at: usize, c: u16) -> Node
     requires { ⌜ at ≤ 60000 ⌝ }
-    ensures { λ r. ⌜ r ≡ nodeWith (now (bytes .entry)) at c ⌝ }
+    ensures { λ r. ⌜ r ≡ nodeWith l a (now (bytes .entry)) at c ⌝ }
 {
-    if c == 0 {
+    if layout::carries_node(l, c) {
         let action = action_at(bytes, at);
         let optimized = flag_at(bytes, at + 20);
         return Node {
             action,
-            children: 0,
+            children: c,
             optimized,
         };
     }
-    let none = Action::new(0.0, 0, 0.0);
     Node {
-        action: none,
+        action: a,
         children: c,
         optimized: false,
     }
 }
 
 // The place after the payload of a node with the first child c.
-fn past(at: usize, c: u16) -> usize
+fn past(l: Layout, at: usize, c: u16) -> usize
     requires { ⌜ at ≤ 60000 ⌝ }
-    ensures { λ r. ⌜ r ≡ at + 21 * cond (eqb c 0) 1 0 ⌝ }
+    ensures { λ r. ⌜ r ≡ at + 21 * cond (carries l c) 1 0 ⌝ }
 {
-    if c == 0 { at + 21 } else { at }
+    if layout::carries_node(l, c) {
+        at + 21
+    } else {
+        at
+    }
 }
 
-fn nodes_at(bytes: &[u8], s: u16) -> [Node; 513]
+fn nodes_at(bytes: &[u8], l: Layout, a: Action, s: u16) -> [Node; 513]
     requires { ⌜ s ≤ 64 ⌝ }
-    ensures { λ r. ⌜ r ≡ treeAt (now (bytes .entry)) s .nodes ⌝ }
+    ensures { λ r. ⌜ r ≡ treeAt l a (now (bytes .entry)) s .nodes ⌝ }
 {
-    let children = links_at(bytes, s);
+    let list = 120 + layout::ends_size(l);
+    let children = links_at(bytes, list, s);
     let n = 1 + 8 * (s as usize);
     let none = Action::new(0.0, 0, 0.0);
     let blank = Node {
@@ -178,23 +211,23 @@ fn nodes_at(bytes: &[u8], s: u16) -> [Node; 513]
         optimized: false,
     };
     let mut nodes = [blank; 513];
-    let mut at = 120 + 2 * (s as usize);
+    let mut at = list + 2 * (s as usize);
     let mut i: usize = 0;
     while i < n {
         let c = children[i];
-        nodes[i] = node_with(bytes, at, c);
-        at = past(at, c);
+        nodes[i] = node_with(bytes, l, a, at, c);
+        at = past(l, at, c);
         i += 1;
     }
     nodes
 }
 
-fn tree_at(bytes: &[u8], s: u16) -> RuleTree
+fn tree_at(bytes: &[u8], l: Layout, a: Action, s: u16) -> RuleTree
     requires { ⌜ s ≤ 64 ⌝ }
-    ensures { λ r. ⌜ r ≡ treeAt (now (bytes .entry)) s ⌝ }
+    ensures { λ r. ⌜ r ≡ treeAt l a (now (bytes .entry)) s ⌝ }
 {
-    let nodes = nodes_at(bytes, s);
-    let ends = Point::usual_ends();
+    let nodes = nodes_at(bytes, l, a, s);
+    let ends = ends_at(bytes, l, 118);
     RuleTree {
         nodes,
         splits: s,
@@ -202,14 +235,14 @@ fn tree_at(bytes: &[u8], s: u16) -> RuleTree
     }
 }
 
-pub fn trainer_at(bytes: &[u8], s: u16) -> Trainer
+pub fn trainer_at(bytes: &[u8], l: Layout, s: u16) -> Trainer
     requires { ⌜ s ≤ 64 ⌝ }
-    ensures { λ r. ⌜ r ≡ trainerAt (now (bytes .entry)) s ⌝ }
+    ensures { λ r. ⌜ r ≡ trainerAt l (now (bytes .entry)) s ⌝ }
 {
-    let wide = s as usize;
-    let at = 120 + 2 * wide + 21 * (1 + 7 * wide);
+    let at = layout::state_place(l, s);
     let settings = settings_at(bytes, 5);
-    let tree = tree_at(bytes, s);
+    let a = layout::given(settings);
+    let tree = tree_at(bytes, l, a, s);
     let phase = byte_at(bytes, at);
     let stage = word_at(bytes, at + 1);
     let round = word_at(bytes, at + 5);
@@ -268,5 +301,5 @@ pub fn version_holds(bytes: &[u8]) -> bool
     if bytes.len() < 5 {
         return false;
     }
-    byte_at(bytes, 4) == 1
+    layout::known(byte_at(bytes, 4))
 }

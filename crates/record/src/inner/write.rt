@@ -11,9 +11,13 @@ ghost use mir.Val.{ofZ};
 ghost use Rattle.rule_tree.specs.Nodes.{nodeCount};
 ghost use Rattle.rule_tree.specs.Grown.{grownOf};
 ghost use Rattle.record.specs.Bytes.{bytesOf, flagByte};
-ghost use Rattle.record.specs.Write.{actionBytes, settingsBytes, numbersBytes, splitsBytes, nodeBytes, payloadBytes, stateBytes, version, recordOf};
-ghost use Rattle.record.specs.Parts.{numberFields, actionFields, placeFields, trialFields, leafFields};
+ghost use Rattle.record.specs.Layout.{endsSize, sizeIn};
+ghost use Rattle.record.specs.Write.{actionBytes, settingsBytes, numbersBytes, splitsBytes, pointBytes, endBytes, nodeBytes, payloadBytes, stateBytes, recordIn};
+ghost use Rattle.record.specs.Parts.{numberFields, actionFields, placeFields, trialFields, nodeFields};
+use crate::inner::layout;
+use crate::inner::layout::Layout;
 use remy::action::Action;
+use remy::point::Point;
 use rule_tree::Node;
 use rule_tree::RuleTree;
 use rule_tree::inner::cubes;
@@ -124,12 +128,37 @@ fn put_splits(buf: &mut [u8], at: usize, t: RuleTree)
     put_list(buf, at + 2, &parents, t.splits as usize);
 }
 
-// A leaf's action and mark; of a parent nothing. The place after it.
-fn put_leaf(buf: &mut [u8], at: usize, x: Node) -> usize
-    requires { ⌜ at + length (leafFields x) ≤ length (now buf) ⌝ }
-    ensures { λ r. ⌜ (r ≡ at + length (leafFields x)) × (now (buf .exit) ≡ sets (now (buf .entry)) at (leafFields x)) ⌝ }
+fn put_point(buf: &mut [u8], at: usize, p: Point)
+    requires { ⌜ at + 24 ≤ length (now buf) ⌝ }
+    ensures { λ _. ⌜ now (buf .exit) ≡ sets (now (buf .entry)) at (pointBytes p) ⌝ }
 {
-    if x.children == 0 {
+    let ack = floats::to_bits(p.ack_ewma.0);
+    let send = floats::to_bits(p.send_ewma.0);
+    let ratio = floats::to_bits(p.rtt_ratio);
+    put(buf, at, 8, ack);
+    put(buf, at + 8, 8, send);
+    put(buf, at + 16, 8, ratio);
+}
+
+// The upper ends, where the layout has them. The place after them.
+fn put_ends(buf: &mut [u8], at: usize, l: Layout, t: RuleTree) -> usize
+    requires { ⌜ at + endsSize l ≤ length (now buf) ⌝ }
+    ensures { λ r. ⌜ (r ≡ at + endsSize l) × (now (buf .exit) ≡ sets (now (buf .entry)) at (endBytes l t)) ⌝ }
+{
+    if l.ends {
+        let ends = t.ends;
+        put_point(buf, at, ends);
+        return at + 24;
+    }
+    at
+}
+
+// A node's action and mark, where the layout carries it. The place after it.
+fn put_node(buf: &mut [u8], at: usize, l: Layout, x: Node) -> usize
+    requires { ⌜ at + length (nodeFields l x) ≤ length (now buf) ⌝ }
+    ensures { λ r. ⌜ (r ≡ at + length (nodeFields l x)) × (now (buf .exit) ≡ sets (now (buf .entry)) at (nodeFields l x)) ⌝ }
+{
+    if layout::carries_node(l, x.children) {
         let a = x.action;
         let mark = flag_of(x.optimized);
         put_action(buf, at, a);
@@ -139,17 +168,17 @@ fn put_leaf(buf: &mut [u8], at: usize, x: Node) -> usize
     at
 }
 
-// The leaves by rising node. The place after them.
-fn put_leaves(buf: &mut [u8], at: usize, t: RuleTree) -> usize
-    requires { ⌜ (t .splits ≤ 64) × (at + length (payloadBytes version (t .nodes) (nodeCount (t .splits))) ≤ length (now buf)) ⌝ }
-    ensures { λ r. ⌜ (r ≡ at + length (payloadBytes version (t .nodes) (nodeCount (t .splits)))) × (now (buf .exit) ≡ sets (now (buf .entry)) at (payloadBytes version (t .nodes) (nodeCount (t .splits)))) ⌝ }
+// The nodes that the layout carries, by rising number. The place after them.
+fn put_nodes(buf: &mut [u8], at: usize, l: Layout, t: RuleTree) -> usize
+    requires { ⌜ (t .splits ≤ 64) × (at + length (payloadBytes l (t .nodes) (nodeCount (t .splits))) ≤ length (now buf)) ⌝ }
+    ensures { λ r. ⌜ (r ≡ at + length (payloadBytes l (t .nodes) (nodeCount (t .splits)))) × (now (buf .exit) ≡ sets (now (buf .entry)) at (payloadBytes l (t .nodes) (nodeCount (t .splits)))) ⌝ }
 {
     let n = 1 + 8 * (t.splits as usize);
     let mut next = at;
     let mut i: usize = 0;
     while i < n {
         let x = t.nodes[i];
-        next = put_leaf(buf, next, x);
+        next = put_node(buf, next, l, x);
         i += 1;
     }
     next
@@ -187,24 +216,20 @@ fn put_state(buf: &mut [u8], at: usize, t: Trainer)
     put_trial(buf, at + 11, t);
 }
 
-// The size of the record of a trainer whose tree is grown.
-pub fn size_of(t: RuleTree) -> usize
-    ensures { λ r. ⌜ r ≡ 172 + 149 * t .splits ⌝ }
-{
-    172 + 149 * (t.splits as usize)
-}
-
-pub fn write(buf: &mut [u8], t: Trainer)
-    requires { ⌜ (grownOf (t .tree) ≡ true) × (172 + 149 * t .tree .splits ≤ length (now buf)) ⌝ }
-    ensures { λ _. ⌜ now (buf .exit) ≡ sets (now (buf .entry)) 0 (recordOf t) ⌝ }
+// The record of a trainer whose tree is grown, in a layout, with its version byte.
+pub fn write(buf: &mut [u8], l: Layout, version: u8, t: Trainer)
+    requires { ⌜ (grownOf (t .tree) ≡ true) × (sizeIn l (t .tree .splits) ≤ length (now buf)) ⌝ }
+    ensures { λ _. ⌜ now (buf .exit) ≡ sets (now (buf .entry)) 0 (recordIn l version t) ⌝ }
 {
     let s = t.settings;
     let tree = t.tree;
-    let splits = tree.splits as usize;
-    put(buf, 0, 4, (168 + 149 * splits) as u64);
-    buf[4] = 1;
+    let splits = tree.splits;
+    let size = layout::size(l, splits);
+    put(buf, 0, 4, (size - 4) as u64);
+    buf[4] = version;
     put_settings(buf, 5, s);
-    put_splits(buf, 118, tree);
-    let at = put_leaves(buf, 120 + 2 * splits, tree);
+    let after = put_ends(buf, 118, l, tree);
+    put_splits(buf, after, tree);
+    let at = put_nodes(buf, after + 2 + 2 * (splits as usize), l, tree);
     put_state(buf, at, t);
 }

@@ -1,19 +1,19 @@
 -- `record::inner::read::links_at` meets its contract. The loop's invariant: the links after the first k splits. Assumes nothing.
-use mathlib.Core.Logic.{⊎-elim}
-use borrow.Author.Needs.{needs}
 use Rattle.record.proofs.Reading as law
+use mathlib.Core.Logic.{⊎-elim}
 use Prim.Native.Nat.{_-_, _≤_}
+use borrow.Author.Needs.{needs}
 use Rattle.record.proofs.inner.read.links_at.Statement.{statement}
 use Rattle.record.proofs.inner.read.links_at.Tie as tie
 
 abbrev Inv-loop : tie.InvT-loop
-Inv-loop bytes s out₀ k₀ out k = (k ≤ s) × law.Linked bytes out k
+Inv-loop bytes list s out₀ k₀ out k = (k ≤ s) × law.Linked bytes list out k
 
 abbrev μ-loop : tie.MeasureT-loop
-μ-loop bytes s out₀ k₀ out k = s - k
+μ-loop bytes list s out₀ k₀ out k = s - k
 
 loop-holds : tie.Need-loop-holds Inv-loop μ-loop
-loop-holds c = (search needs, law.link-none (c .before .args .bytes .now))
+loop-holds c = (search needs, law.link-none (c .before .args .bytes .now) (c .before .args .list))
 
 cast-short-at : tie.Need-cast-short-at Inv-loop μ-loop
 cast-short-at c = search needs
@@ -52,13 +52,13 @@ loop-again : tie.Need-loop-again Inv-loop μ-loop
 loop-again c = (
   search needs,
   ⊎-elim
-      (λ w. law.link-hit (c .before .before .before .before .before .args .bytes .now) (c .before .before .before .loop .out) (c .before .before .before .loop .k) _ (c .before .short-at .ensures) (w .0 .taken) (c .before .before .before .loop .inv .1) (w .1))
-      (λ w. law.link-miss (c .before .before .before .before .before .args .bytes .now) (c .before .before .before .loop .out) (c .before .before .before .loop .k) _ (c .before .short-at .ensures) (w .0 .left) (c .before .before .before .loop .inv .1) (w .1))
+      (λ w. law.link-hit (c .before .before .before .before .before .args .bytes .now) (c .before .before .before .before .before .args .list) (c .before .before .before .loop .out) (c .before .before .before .loop .k) _ (c .before .short-at .ensures) (w .0 .taken) (c .before .before .before .loop .inv .1) (w .1))
+      (λ w. law.link-miss (c .before .before .before .before .before .args .bytes .now) (c .before .before .before .before .before .args .list) (c .before .before .before .loop .out) (c .before .before .before .loop .k) _ (c .before .short-at .ensures) (w .0 .left) (c .before .before .before .loop .inv .1) (w .1))
       (c .if1 .came),
 )
 
 returns : tie.Need-returns Inv-loop μ-loop
-returns c = law.link-all (c .before .before .before .args .bytes .now) (c .before .loop .out) (c .before .loop .k) _ (c .before .loop .inv .0) (c .loop-test .left) (c .before .loop .inv .1)
+returns c = law.link-all (c .before .before .before .args .bytes .now) (c .before .before .before .args .list) (c .before .loop .out) (c .before .loop .k) _ (c .before .loop .inv .0) (c .loop-test .left) (c .before .loop .inv .1)
 
 pub links-at-spec : {M : Type 1} → statement M
 links-at-spec =

@@ -4,26 +4,14 @@ use borrow.Author.Needs.{needs}
 use Rattle.record.proofs.inner.read.trainer_at.Statement.{statement}
 use Rattle.record.proofs.inner.read.trainer_at.Tie as tie
 
-mul-at : tie.Need-mul-at
-mul-at c = search needs
-
-add-at : tie.Need-add-at
-add-at c = search needs
-
-mul-at-2 : tie.Need-mul-at-2
-mul-at-2 c = search needs
-
-add-at-2 : tie.Need-add-at-2
-add-at-2 c = search needs
-
-mul-at-3 : tie.Need-mul-at-3
-mul-at-3 c = search needs
-
-add-at-3 : tie.Need-add-at-3
-add-at-3 c = search needs
+state-place-requires : tie.Need-state-place-requires
+state-place-requires c κs = search needs
 
 settings-at-requires : tie.Need-settings-at-requires
 settings-at-requires c κs = search needs
+
+given-requires : tie.Need-given-requires
+given-requires c κs = search needs
 
 tree-at-requires : tie.Need-tree-at-requires
 tree-at-requires c κs = search needs
@@ -74,21 +62,18 @@ float-at-requires-2 : tie.Need-float-at-requires-2
 float-at-requires-2 c κs = search needs
 
 returns : tie.Need-returns
-returns c = law.trainer-read (c .before .before .before .before .before .before .before .before .before .before .before .args .bytes .now) (c .before .before .before .before .before .before .before .before .before .before .before .args .s) (c .before .before .before .before .before .before .before .before .before .settings-at .ensures) (c .before .before .before .before .before .before .before .before .tree-at .ensures) (c .before .before .before .before .before .before .before .byte-at .ensures) (c .before .before .before .before .before .before .word-at .ensures)
-    (c .before .before .before .before .before .word-at2 .ensures) (c .before .before .before .before .short-at .ensures) (c .before .before .before .float-at .ensures) (c .before .before .short-at2 .ensures)
-    (c .before .short-at3 .ensures) (c .float-at2 .ensures)
+returns c = law.trainer-read (c .before .before .before .before .before .before .before .before .before .before .before .before .before .args .l) (c .before .before .before .before .before .before .before .before .before .before .before .before .before .args .bytes .now) (c .before .before .before .before .before .before .before .before .before .before .before .before .before .args .s) _ (c .before .before .before .before .before .before .before .before .before .before .before .state-place .ensures .0) (c .before .before .before .before .before .before .before .before .before .before .settings-at .ensures)
+    (law.tree-given (c .before .before .before .before .before .before .before .before .before .before .before .before .before .args .l) (c .before .before .before .before .before .before .before .before .before .before .before .before .before .args .bytes .now) (c .before .before .before .before .before .before .before .before .before .before .before .before .before .args .s) (c .before .before .before .before .before .before .before .before .before .before .settings-at .result) (c .before .before .before .before .before .before .before .before .before .given .result) (c .before .before .before .before .before .before .before .before .before .before .settings-at .ensures) (c .before .before .before .before .before .before .before .before .before .given .ensures) (c .before .before .before .before .before .before .before .before .tree-at .ensures))
+    (c .before .before .before .before .before .before .before .byte-at .ensures) (c .before .before .before .before .before .before .word-at .ensures) (c .before .before .before .before .before .word-at2 .ensures) (c .before .before .before .before .short-at .ensures)
+    (c .before .before .before .float-at .ensures) (c .before .before .short-at2 .ensures) (c .before .short-at3 .ensures) (c .float-at2 .ensures)
 
 pub trainer-at-spec : {M : Type 1} → statement M
 trainer-at-spec =
     tie.close
     (tie.spec
-    mul-at
-    add-at
-    mul-at-2
-    add-at-2
-    mul-at-3
-    add-at-3
+    state-place-requires
     settings-at-requires
+    given-requires
     tree-at-requires
     byte-at-requires
     add-word-at

@@ -1,0 +1,82 @@
+// How a version of the record lays a trainer out: the parts that it writes, and their places.
+ghost use mathlib.Core.Path.{_≡_};
+ghost use Prim.Native.Nat.{_+_, _*_, _≤_};
+ghost use Rattle.record.specs.Layout.{layoutOf, knownOf, carries, givenAction, endsSize, nodesIn, nodesPlace, statePlace, sizeIn};
+use remy::action::Action;
+use trainer::settings::Settings;
+
+// Every node's action and mark is written, or the leaves' alone; the tree's upper ends follow the settings, or do not.
+pub struct Layout {
+    pub parents: bool,
+    pub ends: bool,
+}
+
+pub fn of_version(v: u8) -> Layout
+    ensures { λ r. ⌜ r ≡ layoutOf v ⌝ }
+{
+    let parents = 1 < v;
+    let ends = 2 < v;
+    Layout { parents, ends }
+}
+
+pub fn known(v: u8) -> bool
+    ensures { λ r. ⌜ r ≡ knownOf v ⌝ }
+{
+    v == 1
+}
+
+// A node with the first child c is written.
+pub fn carries_node(l: Layout, c: u16) -> bool
+    ensures { λ r. ⌜ r ≡ carries l c ⌝ }
+{
+    if l.parents {
+        return true;
+    }
+    c == 0
+}
+
+// What a parent holds that is not written.
+pub fn given(s: Settings) -> Action
+    ensures { λ r. ⌜ r ≡ givenAction s ⌝ }
+{
+    Action::new(0.0, 0, 0.0)
+}
+
+pub fn ends_size(l: Layout) -> usize
+    ensures { λ r. ⌜ (r ≡ endsSize l) × (r ≤ 24) ⌝ }
+{
+    if l.ends { 24 } else { 0 }
+}
+
+// The nodes that are written of a tree of s splits.
+pub fn nodes_in(l: Layout, s: u16) -> usize
+    ensures { λ r. ⌜ (r ≡ nodesIn l s) × (r ≤ 1 + 8 * s) ⌝ }
+{
+    let wide = s as usize;
+    if l.parents {
+        1 + 8 * wide
+    } else {
+        1 + 7 * wide
+    }
+}
+
+pub fn nodes_place(l: Layout, s: u16) -> usize
+    ensures { λ r. ⌜ (r ≡ nodesPlace l s) × (r ≤ 144 + 2 * s) ⌝ }
+{
+    120 + ends_size(l) + 2 * (s as usize)
+}
+
+pub fn state_place(l: Layout, s: u16) -> usize
+    ensures { λ r. ⌜ (r ≡ statePlace l s) × (r ≤ 165 + 170 * s) ⌝ }
+{
+    let first = nodes_place(l, s);
+    let n = nodes_in(l, s);
+    first + 21 * n
+}
+
+// The size of the record of a trainer whose tree is grown by s splits.
+pub fn size(l: Layout, s: u16) -> usize
+    ensures { λ r. ⌜ (r ≡ sizeIn l s) × (r ≤ 196 + 170 * s) ⌝ }
+{
+    state_place(l, s) + 31
+}
