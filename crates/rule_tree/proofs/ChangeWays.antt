@@ -1,8 +1,9 @@
 -- One law for each way through the functions that change a tree, over plain values. Assumes nothing.
 use mathlib.Core.Path.{_≡_, refl, sym, ap, _∙_}
 use mathlib.Core.Bool.{Bool, true, false}
+use mathlib.Core.Logic.{⊎-elim}
 use mathlib.Core.List.{List, [], _∷_, _++_, map, append-nil}
-use Prim.Native.Nat.{ℕ, zero, suc, _+_, _*_, _<_, _≤_}
+use Prim.Native.Nat.{ℕ, zero, suc, _+_, _-_, _*_, _<_, _≤_}
 use native.Mathlib.Numerals.{add-one}
 use native.Mathlib.Omega.{arith}
 use borrow.Author.Tests.{eq-eqb, ne-eqb, ltb-true}
@@ -14,9 +15,12 @@ use Rattle.remy.specs.declared.point.Point.{Point}
 use Rattle.rule_tree.specs.declared.Node.{Node}
 use Rattle.rule_tree.specs.declared.RuleTree.{RuleTree}
 use Rattle.rule_tree.specs.Lists.{fill}
-use Rattle.rule_tree.specs.Nodes.{noNode, nodeAt, isLeaf, nodeCount, noAction, leafWith}
-use Rattle.rule_tree.specs.Change.{freshTree, withNodes, unmarkedNode, withoutMarks, splitAt}
+use Rattle.rule_tree.specs.Nodes.{noNode, nodeAt, isLeaf, nodeCount, noAction, leafWith, linkedTo, childrenOf}
+use Rattle.rule_tree.specs.Cubes.{ownerBelow, splitNodes}
+use Rattle.rule_tree.specs.Change.{freshTree, withNodes, unmarkedNode, withoutMarks, splitAt, newestParent, undone}
 use Rattle.rule_tree.specs.Calls.{leafIn}
+use Rattle.rule_tree.proofs.Lists.{getD-tabulate}
+use Rattle.rule_tree.proofs.Owners.{owner-found}
 
 -- ---- a list whose first i elements went through f
 abbrev pub swept : {A : Type 0} → (A → A) → List A → ℕ → List A
@@ -76,17 +80,37 @@ pub filled-more :
 unfolding fill
 filled-more t out xs from k v e = rw (add-one k) (ap (λ (o : RuleTree). withNodes o (set (o .nodes) (from + k) v)) e)
 
+pub eight-done :
+    (t out : RuleTree) (from k : ℕ) (v : Node) → k ≤ 8 → 8 ≤ k → out ≡ withNodes t (fill (t .nodes) from k v)
+    → out ≡ withNodes t (fill (t .nodes) from 8 v)
+eight-done t out from k v l g e = let q : k ≡ 8 = omega arith in e ∙ ap (λ (n : ℕ). withNodes t (fill (t .nodes) from n v)) q
+
 pub split-done :
-    (t out : RuleTree) (i k : ℕ) (none : Action) → none ≡ noAction → k ≤ 8 → 8 ≤ k
-    → out ≡ withNodes t (fill (set (t .nodes) i (record { action = none; children = 8 * t .splits + 1; optimized = false })) (8 * t .splits + 1) k (leafWith (nodeAt (t .nodes) i .action)))
+    (t out : RuleTree) (i : ℕ)
+    → out ≡ withNodes t (fill (set (t .nodes) i (linkedTo (nodeAt (t .nodes) i) (8 * t .splits + 1))) (8 * t .splits + 1) 8 (leafWith (nodeAt (t .nodes) i .action)))
     → _≡_ {A = RuleTree} (record { nodes = out .nodes; splits = t .splits + 1; ends = out .ends }) (splitAt t i)
 unfolding splitAt
-split-done t out i k none p l g e =
-    let q : k ≡ 8 = omega arith in
-    ap (λ (o : RuleTree). record { nodes = o .nodes; splits = t .splits + 1; ends = o .ends }) e
-    ∙ ap
-    (λ (n : ℕ). record { nodes = fill (set (t .nodes) i (record { action = none; children = 8 * t .splits + 1; optimized = false })) (8 * t .splits + 1) n (leafWith (nodeAt (t .nodes) i .action)); splits = t .splits + 1; ends = t .ends })
-    q
-    ∙ ap
-    (λ (a : Action). record { nodes = fill (set (t .nodes) i (record { action = a; children = 8 * t .splits + 1; optimized = false })) (8 * t .splits + 1) 8 (leafWith (nodeAt (t .nodes) i .action)); splits = t .splits + 1; ends = t .ends })
-    p
+split-done t out i e = ap (λ (o : RuleTree). record { nodes = o .nodes; splits = t .splits + 1; ends = o .ends }) e
+
+pub newest-is : (t : RuleTree) (xs cs : List ℕ) → 0 < t .splits → t .splits ≤ 64 → cs ≡ childrenOf (t .nodes) → xs ≡ splitNodes cs
+    → getD xs (t .splits - 1) 0 ≡ newestParent t
+newest-is t xs cs l g p q =
+    ap (λ (ys : List ℕ). getD ys (t .splits - 1) 0) (q ∙ ap splitNodes p)
+    ∙ getD-tabulate 64 (t .splits - 1) (λ k. ownerBelow 513 (childrenOf (t .nodes)) (8 * k + 1)) 0 (omega arith)
+
+pub newest-fits : (t : RuleTree) (i : ℕ) → i ≡ newestParent t → i < 513
+newest-fits t i e =
+    ⊎-elim (λ (z : newestParent t ≡ 0). omega (arith, z))
+    (λ (w : (newestParent t < 513) × (getD (childrenOf (t .nodes)) (newestParent t) 0 ≡ 8 * (t .splits - 1) + 1)). let b = w .0 in omega arith)
+    (owner-found 513 (childrenOf (t .nodes)) (8 * (t .splits - 1) + 1))
+
+pub undo-done :
+    (t out : RuleTree) (i : ℕ) (none : Action) → i ≡ newestParent t → none ≡ noAction
+    → out ≡ withNodes t (fill (set (t .nodes) i (linkedTo (nodeAt (t .nodes) i) 0)) (8 * (t .splits - 1) + 1) 8 (leafWith none))
+    → _≡_ {A = RuleTree} (record { nodes = out .nodes; splits = t .splits - 1; ends = out .ends }) (undone t)
+unfolding undone
+undo-done t out i none p q e =
+    ap (λ (o : RuleTree). record { nodes = o .nodes; splits = t .splits - 1; ends = o .ends })
+    (e
+    ∙ ap (λ (j : ℕ). withNodes t (fill (set (t .nodes) j (linkedTo (nodeAt (t .nodes) j) 0)) (8 * (t .splits - 1) + 1) 8 (leafWith none))) p
+    ∙ ap (λ (a : Action). withNodes t (fill (set (t .nodes) (newestParent t) (linkedTo (nodeAt (t .nodes) (newestParent t)) 0)) (8 * (t .splits - 1) + 1) 8 (leafWith a))) q)

@@ -19,13 +19,13 @@ use Rattle.remy.specs.Cube.{usualEnds}
 use Rattle.rule_tree.specs.declared.Node.{Node}
 use Rattle.rule_tree.specs.declared.RuleTree.{RuleTree}
 use Rattle.rule_tree.specs.Lists.{occurrences, fill}
-use Rattle.rule_tree.specs.Nodes.{noNode, nodeAt, isLeaf, nodeCount, noAction, leafWith, parentWith, blankNode, childrenOf}
+use Rattle.rule_tree.specs.Nodes.{noNode, nodeAt, isLeaf, nodeCount, noAction, leafWith, linkedTo, blankNode, childrenOf}
 use Rattle.rule_tree.specs.Grown.{linkHolds, plainOf, slotHolds, endsHold, grownOf}
 use Rattle.rule_tree.specs.Change.{freshTree, withNodes, withAction, withMark, unmarkedNode, withoutMarks, splitAt}
 use Rattle.rule_tree.specs.Calls.{leafIn, blankTree}
 use Rattle.rule_tree.proofs.Lists.{length-fill, getD-fill, getD-fill-other}
 use Rattle.rule_tree.proofs.ChangeWays.{unmarked-leaf}
-use Rattle.rule_tree.proofs.GrownTree.{Grown, Parent, child-at, grown-facts, facts-grown, grown-long, link-none, link-from, link-more, link-parts, slot-leaf, slot-unused, slot-parent, leaf-below, leaf-childless, leaf-valid, unused-childless}
+use Rattle.rule_tree.proofs.GrownTree.{Grown, Parent, child-at, grown-facts, facts-grown, grown-long, link-none, link-from, link-more, link-parts, slot-used, slot-unused, leaf-below, leaf-childless, leaf-valid, unused-childless}
 
 same-or : (i j : ℕ) → (i ≡ j) ⊎ (i ≢ j)
 same-or i j = go (eqb i j) refl
@@ -93,7 +93,7 @@ module _ (t : RuleTree) (i : ℕ) (a : Action) where
       let g = grown-facts t h in
       let b = leaf-below t i l in
       facts-grown (withAction t i a)
-      (stored-grown t i _ g (omega (arith, g .few)) refl (slot-leaf _ _ (lt-ltb i (nodeCount (t .splits)) b) (leaf-childless t i l) ∙ v))
+      (stored-grown t i _ g (omega (arith, g .few)) refl (slot-used _ _ (lt-ltb i (nodeCount (t .splits)) b) ∙ v))
 
 -- ---- a mark
 module _ (t : RuleTree) (i : ℕ) where
@@ -120,7 +120,7 @@ module _ (t : RuleTree) (i : ℕ) where
       let b = leaf-below t i l in
       facts-grown (withMark t i)
       (stored-grown t i _ g (omega (arith, g .few)) refl
-      (slot-leaf _ _ (lt-ltb i (nodeCount (t .splits)) b) (leaf-childless t i l) ∙ leaf-valid t g i l))
+      (slot-used _ _ (lt-ltb i (nodeCount (t .splits)) b) ∙ leaf-valid t g i l))
 
 -- ---- marks cleared
 unmarked-children : (x : Node) → unmarkedNode x .children ≡ x .children
@@ -155,7 +155,7 @@ unmarked-slot x u h = go (eqb (x .children) 0) refl u refl
     go :
         (b : Bool) → eqb (x .children) 0 ≡ b → (v : Bool) → u ≡ v
         → slotHolds (cond b (record { action = x .action; children = x .children; optimized = false }) x) u ≡ true
-    go true e true p = slot-leaf _ u p (eqb-true _ 0 e) ∙ sym (slot-leaf x u p (eqb-true _ 0 e)) ∙ h
+    go true e true p = slot-used _ u p ∙ sym (slot-used x u p) ∙ h
     go true e false p = slot-unused _ u p ∙ unmarked-plain x (sym (slot-unused x u p) ∙ h)
     go false e v p = h
 
@@ -201,7 +201,7 @@ fresh-at e a = refl
 fresh-other : (e : Point) (a : Action) (i : ℕ) → i < 513 → i ≢ 0 → nodeAt (freshTree e a .nodes) i ≡ blankNode
 fresh-other e a i l n = getD-set-other (replicate 513 blankNode) 0 i (leafWith a) noNode n ∙ getD-replicate 513 i blankNode noNode l
 
-blank-plain : plainOf blankNode ≡ true
+pub blank-plain : plainOf blankNode ≡ true
 unfolding plainOf toBits
 blank-plain = refl
 
@@ -219,7 +219,7 @@ fresh-facts e a v h =
       owners = λ k l. absurd (omega arith);
       slots =
           λ i l. ⊎-elim
-          (λ (p : i ≡ 0). subst (λ (k : ℕ). slotHolds (nodeAt (freshTree e a .nodes) k) (ltb k (nodeCount 0)) ≡ true) (sym p) (slot-leaf (leafWith a) true refl refl ∙ v))
+          (λ (p : i ≡ 0). subst (λ (k : ℕ). slotHolds (nodeAt (freshTree e a .nodes) k) (ltb k (nodeCount 0)) ≡ true) (sym p) (slot-used (leafWith a) true refl ∙ v))
           (λ (n : i ≢ 0). ap (λ (x : Node). slotHolds x (ltb i (nodeCount 0))) (fresh-other e a i l n) ∙ slot-unused blankNode _ (le-ltb i 1 (omega arith)) ∙ blank-plain)
           (same-or i 0);
       box = h;
@@ -240,17 +240,17 @@ pub blank-grown : grownOf blankTree ≡ true
 blank-grown = fresh-grown usualEnds noAction none-valid usual-ends
 
 -- ---- a split
-map-set : {A B : Type 0} (g : A → B) (l : List A) (i : ℕ) (y : A) → map g (set l i y) ≡ set (map g l) i (g y)
+pub map-set : {A B : Type 0} (g : A → B) (l : List A) (i : ℕ) (y : A) → map g (set l i y) ≡ set (map g l) i (g y)
 map-set g [] i y = refl
 map-set g (x ∷ l) zero y = refl
 map-set g (x ∷ l) (suc i) y = ap (λ zs. g x ∷ zs) (map-set g l i y)
 
-map-fill : {A B : Type 0} (g : A → B) (l : List A) (at n : ℕ) (v : A) → map g (fill l at n v) ≡ fill (map g l) at n (g v)
+pub map-fill : {A B : Type 0} (g : A → B) (l : List A) (at n : ℕ) (v : A) → map g (fill l at n v) ≡ fill (map g l) at n (g v)
 unfolding fill
 map-fill g l at zero v = refl
 map-fill g l at (suc n) v = map-set g (fill l at n v) (at + n) v ∙ ap (λ zs. set zs (at + n) (g v)) (map-fill g l at n v)
 
-fill-same : {A : Type 0} (l : List A) (at n : ℕ) (v d : A) → ((k : ℕ) → k < n → getD l (at + k) d ≡ v) → fill l at n v ≡ l
+pub fill-same : {A : Type 0} (l : List A) (at n : ℕ) (v d : A) → ((k : ℕ) → k < n → getD l (at + k) d ≡ v) → fill l at n v ≡ l
 unfolding fill
 fill-same l at zero v d h = refl
 fill-same l at (suc n) v d h =
@@ -258,13 +258,13 @@ fill-same l at (suc n) v d h =
     ∙ ap (λ w. set l (at + n) w) (sym (h n (omega arith)))
     ∙ set-getD l (at + n) d
 
-occurrences-set : (x v : ℕ) (cs : List ℕ) (i : ℕ) → i < length cs → getD cs i 0 ≢ x → occurrences x (set cs i v) ≡ cond (eqb v x) 1 0 + occurrences x cs
+pub occurrences-set : (x v : ℕ) (cs : List ℕ) (i : ℕ) → i < length cs → getD cs i 0 ≢ x → occurrences x (set cs i v) ≡ cond (eqb v x) 1 0 + occurrences x cs
 unfolding occurrences
 occurrences-set x v [] i l n = absurd (omega arith)
 occurrences-set x v (c ∷ cs) zero l n = rw (ne-eqb c x n) (omega arith)
 occurrences-set x v (c ∷ cs) (suc i) l n = let h = occurrences-set x v cs i (omega arith) n in omega arith
 
-occurrences-none : (x : ℕ) (cs : List ℕ) → ((j : ℕ) → j < length cs → getD cs j 0 ≢ x) → occurrences x cs ≡ 0
+pub occurrences-none : (x : ℕ) (cs : List ℕ) → ((j : ℕ) → j < length cs → getD cs j 0 ≢ x) → occurrences x cs ≡ 0
 unfolding occurrences
 occurrences-none x [] h = refl
 occurrences-none x (c ∷ cs) h =
@@ -275,7 +275,7 @@ occurrences-none x (c ∷ cs) h =
 abbrev splitTree : RuleTree → ℕ → RuleTree
 splitTree t i =
     record {
-      nodes = fill (set (t .nodes) i (parentWith (8 * t .splits + 1))) (8 * t .splits + 1) 8 (leafWith (nodeAt (t .nodes) i .action));
+      nodes = fill (set (t .nodes) i (linkedTo (nodeAt (t .nodes) i) (8 * t .splits + 1))) (8 * t .splits + 1) 8 (leafWith (nodeAt (t .nodes) i .action));
       splits = t .splits + 1;
       ends = t .ends;
     }
@@ -288,7 +288,7 @@ module _ (t : RuleTree) (i : ℕ) where
   pub split-length : length (splitAt t i .nodes) ≡ length (t .nodes)
   split-length =
       ap (λ (r : RuleTree). length (r .nodes)) (sym (split-is t i))
-      ∙ length-fill (set (t .nodes) i (parentWith (8 * t .splits + 1))) (8 * t .splits + 1) 8 _
+      ∙ length-fill (set (t .nodes) i (linkedTo (nodeAt (t .nodes) i) (8 * t .splits + 1))) (8 * t .splits + 1) 8 _
       ∙ length-set (t .nodes) i _
 
   pub split-splits : splitAt t i .splits ≡ t .splits + 1
@@ -297,10 +297,10 @@ module _ (t : RuleTree) (i : ℕ) where
   pub split-ends : splitAt t i .ends ≡ t .ends
   split-ends = ap (λ (r : RuleTree). r .ends) (sym (split-is t i))
 
-  pub split-parent : i < length (t .nodes) → i < nodeCount (t .splits) → nodeAt (splitAt t i .nodes) i ≡ parentWith (8 * t .splits + 1)
+  pub split-parent : i < length (t .nodes) → i < nodeCount (t .splits) → nodeAt (splitAt t i .nodes) i ≡ linkedTo (nodeAt (t .nodes) i) (8 * t .splits + 1)
   split-parent l b =
       ap (λ (r : RuleTree). nodeAt (r .nodes) i) (sym (split-is t i))
-      ∙ getD-fill-other (set (t .nodes) i (parentWith (8 * t .splits + 1))) (8 * t .splits + 1) 8 _ noNode i (λ k p e. absurd (omega arith))
+      ∙ getD-fill-other (set (t .nodes) i (linkedTo (nodeAt (t .nodes) i) (8 * t .splits + 1))) (8 * t .splits + 1) 8 _ noNode i (λ k p e. absurd (omega arith))
       ∙ getD-set-same (t .nodes) i _ noNode l
 
   pub split-child :
@@ -308,14 +308,14 @@ module _ (t : RuleTree) (i : ℕ) where
       → nodeAt (splitAt t i .nodes) (8 * t .splits + 1 + k) ≡ leafWith (nodeAt (t .nodes) i .action)
   split-child l k b =
       ap (λ (r : RuleTree). nodeAt (r .nodes) (8 * t .splits + 1 + k)) (sym (split-is t i))
-      ∙ getD-fill (set (t .nodes) i (parentWith (8 * t .splits + 1))) (8 * t .splits + 1) 8 _ noNode k b
-      (omega (arith, length-set (t .nodes) i (parentWith (8 * t .splits + 1))))
+      ∙ getD-fill (set (t .nodes) i (linkedTo (nodeAt (t .nodes) i) (8 * t .splits + 1))) (8 * t .splits + 1) 8 _ noNode k b
+      (omega (arith, length-set (t .nodes) i (linkedTo (nodeAt (t .nodes) i) (8 * t .splits + 1))))
 
   pub split-other :
       (j : ℕ) → j ≢ i → (j < nodeCount (t .splits)) ⊎ (nodeCount (t .splits + 1) ≤ j) → nodeAt (splitAt t i .nodes) j ≡ nodeAt (t .nodes) j
   split-other j n o =
       ap (λ (r : RuleTree). nodeAt (r .nodes) j) (sym (split-is t i))
-      ∙ getD-fill-other (set (t .nodes) i (parentWith (8 * t .splits + 1))) (8 * t .splits + 1) 8 _ noNode j
+      ∙ getD-fill-other (set (t .nodes) i (linkedTo (nodeAt (t .nodes) i) (8 * t .splits + 1))) (8 * t .splits + 1) 8 _ noNode j
       (λ k p e. ⊎-elim (λ (b : j < nodeCount (t .splits)). absurd (omega arith)) (λ (b : nodeCount (t .splits + 1) ≤ j). absurd (omega arith)) o)
       ∙ getD-set-other (t .nodes) i j _ noNode n
 
@@ -338,18 +338,14 @@ place s i j =
         subst (Place s i) e (new (j - (8 * s + 1)) (omega arith))
     go n false p false q = old j n (_⊎_.inr (ltb-false j (nodeCount (s + 1)) q))
 
-old-used : (s j : ℕ) → (j < nodeCount s) ⊎ (nodeCount (s + 1) ≤ j) → ltb j (nodeCount (s + 1)) ≡ ltb j (nodeCount s)
+pub old-used : (s j : ℕ) → (j < nodeCount s) ⊎ (nodeCount (s + 1) ≤ j) → ltb j (nodeCount (s + 1)) ≡ ltb j (nodeCount s)
 old-used s j o =
     ⊎-elim (λ (l : j < nodeCount s). lt-ltb j (nodeCount (s + 1)) (omega arith) ∙ sym (lt-ltb j (nodeCount s) l))
     (λ (l : nodeCount (s + 1) ≤ j). le-ltb j (nodeCount (s + 1)) l ∙ sym (le-ltb j (nodeCount s) (omega arith))) o
 
-parent-plain : (c : ℕ) → plainOf (parentWith c) ≡ true
-unfolding plainOf toBits
-parent-plain c = refl
-
 -- a leaf of a grown tree with room for one more split
 module _ (t : RuleTree) (i : ℕ) (n : length (t .nodes) ≡ 513) (g : Grown t) (l : leafIn t i ≡ true) (r : t .splits < 64) where
-  parent : nodeAt (splitAt t i .nodes) i ≡ parentWith (8 * t .splits + 1)
+  parent : nodeAt (splitAt t i .nodes) i ≡ linkedTo (nodeAt (t .nodes) i) (8 * t .splits + 1)
   parent = split-parent t i (omega (arith, leaf-below t i l)) (leaf-below t i l)
 
   child : (k : ℕ) → k < 8 → nodeAt (splitAt t i .nodes) (8 * t .splits + 1 + k) ≡ leafWith (nodeAt (t .nodes) i .action)
@@ -361,8 +357,8 @@ module _ (t : RuleTree) (i : ℕ) (n : length (t .nodes) ≡ 513) (g : Grown t) 
       let cs = childrenOf (t .nodes) in
       let b = leaf-below t i l in
       ap (λ (q : RuleTree). childrenOf (q .nodes)) (sym (split-is t i))
-      ∙ map-fill (λ (x : Node). x .children) (set (t .nodes) i (parentWith (8 * t .splits + 1))) (8 * t .splits + 1) 8 _
-      ∙ ap (λ (zs : List ℕ). fill zs (8 * t .splits + 1) 8 0) (map-set (λ (x : Node). x .children) (t .nodes) i (parentWith (8 * t .splits + 1)))
+      ∙ map-fill (λ (x : Node). x .children) (set (t .nodes) i (linkedTo (nodeAt (t .nodes) i) (8 * t .splits + 1))) (8 * t .splits + 1) 8 _
+      ∙ ap (λ (zs : List ℕ). fill zs (8 * t .splits + 1) 8 0) (map-set (λ (x : Node). x .children) (t .nodes) i (linkedTo (nodeAt (t .nodes) i) (8 * t .splits + 1)))
       ∙ fill-same (set cs i (8 * t .splits + 1)) (8 * t .splits + 1) 8 0 0
       (λ k p. getD-set-other cs i (8 * t .splits + 1 + k) (8 * t .splits + 1) 0 (λ e. absurd (omega arith))
       ∙ child-at (t .nodes) (8 * t .splits + 1 + k)
@@ -387,11 +383,11 @@ module _ (t : RuleTree) (i : ℕ) (n : length (t .nodes) ≡ 513) (g : Grown t) 
       go : {m : ℕ} → Place (t .splits) i m → m < 513 → slotHolds (nodeAt (splitAt t i .nodes) m) (ltb m (nodeCount (t .splits + 1))) ≡ true
       go split b =
           ap (λ (x : Node). slotHolds x (ltb i (nodeCount (t .splits + 1)))) parent
-          ∙ slot-parent (parentWith (8 * t .splits + 1)) _ (λ e. absurd (omega arith))
-          ∙ parent-plain _
+          ∙ slot-used _ _ (lt-ltb i (nodeCount (t .splits + 1)) (omega (arith, leaf-below t i l)))
+          ∙ leaf-valid t g i l
       go (new k p) b =
           ap (λ (x : Node). slotHolds x (ltb (8 * t .splits + 1 + k) (nodeCount (t .splits + 1)))) (child k p)
-          ∙ slot-leaf _ _ (lt-ltb (8 * t .splits + 1 + k) (nodeCount (t .splits + 1)) (omega arith)) refl
+          ∙ slot-used _ _ (lt-ltb (8 * t .splits + 1 + k) (nodeCount (t .splits + 1)) (omega arith))
           ∙ leaf-valid t g i l
       go (old m p o) b =
           ap (λ (x : Node). slotHolds x (ltb m (nodeCount (t .splits + 1)))) (split-other t i m p o)

@@ -123,18 +123,13 @@ link-more s c i h =
     (link-parts s c i h)
 
 -- ---- one slot
-pub slot-leaf : (x : Node) (u : Bool) → u ≡ true → x .children ≡ 0 → slotHolds x u ≡ validOf (x .action)
+pub slot-used : (x : Node) (u : Bool) → u ≡ true → slotHolds x u ≡ validOf (x .action)
 unfolding slotHolds
-slot-leaf x u p e = rw (p, eq-eqb _ 0 e)
+slot-used x u p = rw p
 
 pub slot-unused : (x : Node) (u : Bool) → u ≡ false → slotHolds x u ≡ plainOf x
 unfolding slotHolds
 slot-unused x u p = rw p
-
-pub slot-parent : (x : Node) (u : Bool) → (x .children ≡ 0 → ⊥) → slotHolds x u ≡ plainOf x
-unfolding slotHolds
-slot-parent x true e = rw (ne-eqb _ 0 e)
-slot-parent x false e = refl
 
 slot-none : (u : Bool) → slotHolds noNode u ≡ false
 unfolding slotHolds validOf toBits
@@ -182,11 +177,13 @@ module _ (t : RuleTree) (g : Grown t) where
       (λ (p : Parent (t .splits) (nodeAt (t .nodes) (8 * t .splits) .children) (8 * t .splits)). absurd (omega (arith, p .later, p .below)))
       (link-parts _ _ _ (g .links (8 * t .splits) (omega (arith, g .few)))))
 
-  -- a leaf's action is valid
+  -- a node's action is valid, and so a leaf's
+  pub node-valid : (i : ℕ) → i < nodeCount (t .splits) → validOf (nodeAt (t .nodes) i .action) ≡ true
+  node-valid i l =
+      sym (slot-used (nodeAt (t .nodes) i) (ltb i (nodeCount (t .splits))) (lt-ltb _ _ l)) ∙ g .slots i (omega (arith, g .few))
+
   pub leaf-valid : (i : ℕ) → leafIn t i ≡ true → validOf (nodeAt (t .nodes) i .action) ≡ true
-  leaf-valid i h =
-      sym (slot-leaf (nodeAt (t .nodes) i) (ltb i (nodeCount (t .splits))) (lt-ltb _ _ (leaf-below t i h)) (leaf-childless t i h))
-      ∙ g .slots i (omega (arith, leaf-below t i h, g .few))
+  leaf-valid i h = node-valid i (leaf-below t i h)
 
 -- ---- the most used of a tree's leaves
 module _ (t : RuleTree) (xs : List ℕ) (c : countsHold t xs ≡ true) where

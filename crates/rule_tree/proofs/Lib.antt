@@ -8,6 +8,8 @@ pub mod Owners
 pub mod CubeSteps
 pub mod Plain
 pub mod Links
+pub mod Patched
+pub mod Undoing
 pub mod Comparing
 pub mod Copying
 pub mod EqualLevel

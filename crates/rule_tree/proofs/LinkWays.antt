@@ -110,14 +110,9 @@ module _ (x : Node) where
   plain-multiplier a = rw (ne-eqb _ _ a)
 
   -- ---- slot_holds
-  pub slot-leaf : (used : Bool) → used ≡ true → x .children ≡ 0 → validOf (x .action) ≡ slotHolds x used
+  pub slot-used : (used : Bool) → used ≡ true → validOf (x .action) ≡ slotHolds x used
   unfolding slotHolds
-  slot-leaf used u h = rw (u, eq-eqb _ _ h)
-
-  pub slot-parent : (used : Bool) → (x .children ≡ 0 → ⊥) → plainOf x ≡ slotHolds x used
-  unfolding slotHolds
-  slot-parent true h = rw (ne-eqb _ _ h)
-  slot-parent false h = refl
+  slot-used used u = rw u
 
   pub slot-unused : (used : Bool) → used ≡ false → plainOf x ≡ slotHolds x used
   unfolding slotHolds

@@ -16,7 +16,7 @@ use Rattle.rule_tree.specs.Nodes.{nodeAt, childrenOf, nodeCount}
 use Rattle.rule_tree.specs.Grown.{linkHolds, linksHold, ownersOf, allOnes, linkedOf, plainOf, slotHolds, payloadsHold, endsHold, grownOf}
 use Rattle.rule_tree.specs.Cubes.{ownerBelow, splitNodes, cubeAt, cubeOf}
 use Rattle.rule_tree.proofs.Lists.{allBelow-at, allBelow-all, getD-tabulate}
-use Rattle.rule_tree.proofs.LinkWays.{children-at, children-count, slot-leaf, slot-parent, slot-unused}
+use Rattle.rule_tree.proofs.LinkWays.{children-at, children-count, slot-used, slot-unused}
 use Rattle.rule_tree.proofs.Owners.{same-or-not, below-or-not, Once, once-of, owner-found, owner-is}
 use Rattle.rule_tree.proofs.Plain.{and-l, and-r, PointFits, ends-usual, ends-whole}
 use Rattle.rule_tree.proofs.CubeSteps.{Low, parentOf, child-step}
@@ -185,14 +185,10 @@ module _ (t : RuleTree) (g : grownOf t ≡ true) where
   slot-at : (i : ℕ) → i < 513 → slotHolds (nodeAt (t .nodes) i) (ltb i (nodeCount (t .splits))) ≡ true
   slot-at i l = allBelow-at 513 i (λ i. slotHolds (nodeAt (t .nodes) i) (ltb i (nodeCount (t .splits)))) grown-payloads l
 
-  pub grown-leaf-valid : (i : ℕ) → i < nodeCount (t .splits) → nodeAt (t .nodes) i .children ≡ 0
-      → validOf (nodeAt (t .nodes) i .action) ≡ true
-  grown-leaf-valid i l z =
+  pub grown-valid : (i : ℕ) → i < nodeCount (t .splits) → validOf (nodeAt (t .nodes) i .action) ≡ true
+  grown-valid i l =
       let s = grown-splits in
-      slot-leaf (nodeAt (t .nodes) i) (ltb i (nodeCount (t .splits))) (lt-ltb _ _ l) z ∙ slot-at i (omega arith)
-
-  pub grown-parent-plain : (i : ℕ) → i < 513 → (nodeAt (t .nodes) i .children ≡ 0 → ⊥) → plainOf (nodeAt (t .nodes) i) ≡ true
-  grown-parent-plain i l n = slot-parent (nodeAt (t .nodes) i) (ltb i (nodeCount (t .splits))) n ∙ slot-at i l
+      slot-used (nodeAt (t .nodes) i) (ltb i (nodeCount (t .splits))) (lt-ltb _ _ l) ∙ slot-at i (omega arith)
 
   pub grown-unused-leaf : (i : ℕ) → nodeCount (t .splits) ≤ i → i < 513 → nodeAt (t .nodes) i .children ≡ 0
   grown-unused-leaf i a l =

@@ -31,7 +31,7 @@ use Rattle.rule_tree.specs.Grown.{grownOf}
 use Rattle.rule_tree.specs.Cubes.{cubeOf}
 use Rattle.rule_tree.specs.Walk.{leafOf}
 use Rattle.rule_tree.specs.Counts.{limit, countsHold, usedIn, mostUsed}
-use Rattle.rule_tree.specs.Change.{freshTree, withAction, withMark, withoutMarks, splitAt}
+use Rattle.rule_tree.specs.Change.{freshTree, withAction, withMark, withoutMarks, splitAt, undone}
 use Rattle.rule_tree.specs.Equal.{treesEqual}
 
 -- a refusal hands back the tree that came
@@ -103,6 +103,10 @@ clearOf t = guarded (test (grownOf t) 10 ∷ []) (λ k. refuse k t) (taken (with
 unfoldable pub splitOf : RuleTree → ℕ → Changed
 splitOf t i =
     guarded (test (grownOf t) 10 ∷ test (leafIn t i) 3 ∷ test (ltb (t .splits) 64) 20 ∷ []) (λ k. refuse k t) (taken (splitAt t i))
+
+-- the newest split taken back: 10, 24
+unfoldable pub undoOf : RuleTree → Changed
+undoOf t = guarded (test (grownOf t) 10 ∷ test (ltb 0 (t .splits)) 24 ∷ []) (λ k. refuse k t) (taken (undone t))
 
 -- num_parents: 10
 unfoldable pub parentsOf : RuleTree → Number

@@ -41,10 +41,10 @@ plainOf x =
     eqb (toBits binary64 (x .action .«window_multiplier»)) 0
     && (eqb (ofZ w32 (x .action .«window_increment»)) 0 && (eqb (toBits binary64 (x .action .«intersend_delay» .0)) 0 && not (x .optimized)))
 
--- a leaf's action is valid; a parent and a slot that is not in use hold nothing more
+-- the action of a leaf, and that which a parent keeps, is valid; a slot that is not in use holds nothing
 unfoldable pub slotHolds : Node → Bool → Bool
 unfolding plainOf
-slotHolds x used = cond (used && eqb (x .children) 0) (validOf (x .action)) (plainOf x)
+slotHolds x used = cond used (validOf (x .action)) (plainOf x)
 
 abbrev pub payloadsHold : List Node → ℕ → Bool
 payloadsHold nodes s = allBelow 513 (λ i. slotHolds (nodeAt nodes i) (ltb i (nodeCount s)))

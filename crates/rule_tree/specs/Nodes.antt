@@ -23,13 +23,13 @@ nodeAt nodes i = getD nodes i noNode
 abbrev pub leafWith : Action → Node
 leafWith a = record { action = a; children = 0; optimized = false }
 
--- what a slot that is no leaf holds beside its link: the action (+0, 0, +0)
+-- the action of a slot that is not in use: (+0, 0, +0)
 abbrev pub noAction : Action
 noAction = actionOf zero (pos 0) zero
 
--- what a split leaves in the parent, first being its first child
-abbrev pub parentWith : ℕ → Node
-parentWith first = record { action = noAction; children = first; optimized = false }
+-- a node with the action and mark of another, and first for its first child: 0 for a leaf
+abbrev pub linkedTo : Node → ℕ → Node
+linkedTo x first = record { action = x .action; children = first; optimized = x .optimized }
 
 abbrev pub blankNode : Node
 blankNode = leafWith noAction

@@ -2,7 +2,7 @@
 ghost use mathlib.Core.Path.{_≡_};
 ghost use mathlib.Core.Bool.{false, true};
 ghost use Rattle.rule_tree.specs.Grown.{grownOf};
-ghost use Rattle.rule_tree.specs.Calls.{newOf, domainOf, lookupOf, replacedOf, tallyOf, countedIn, setOf, markOf, clearOf, splitOf, parentsOf, usedOf, mostUsedOf, equalOf};
+ghost use Rattle.rule_tree.specs.Calls.{newOf, domainOf, lookupOf, replacedOf, tallyOf, countedIn, setOf, markOf, clearOf, splitOf, undoOf, parentsOf, usedOf, mostUsedOf, equalOf};
 use remy::action::Action;
 use remy::cube::Cube;
 use remy::point::Point;
@@ -220,6 +220,26 @@ impl RuleTree {
             }
             return Changed {
                 refused: 3,
+                tree: self,
+            };
+        }
+        Changed {
+            refused: 10,
+            tree: self,
+        }
+    }
+
+    // The newest split taken back: its parent is a leaf again, with the action and mark that it had when split.
+    pub fn undo_split(self) -> Changed
+        ensures { λ r. ⌜ r ≡ undoOf self ⌝ }
+    {
+        if inner::links::grown(self) {
+            if self.splits > 0 {
+                let tree = inner::change::undo(self);
+                return Changed { refused: 0, tree };
+            }
+            return Changed {
+                refused: 24,
                 tree: self,
             };
         }

@@ -171,7 +171,7 @@ unfolding linkHolds slotHolds
 slot-of s i x l h k = go (eqb (x .children) 0) refl
   where
     go : (b : Bool) → eqb (x .children) 0 ≡ b → Slot s i x
-    go true e = leaf (eqb-true (x .children) 0 e) (rw (lt-ltb i (nodeCount s) l, e) at k)
+    go true e = leaf (eqb-true (x .children) 0 e) (rw (lt-ltb i (nodeCount s) l) at k)
     go false e =
         let f : eqb (x .children % 8) 1 && (ltb i (x .children) && ltb (x .children) (nodeCount s)) ≡ true = rw e at h in
         let a : x .children % 8 ≡ 1 = eqb-true (x .children % 8) 1 (and-l _ _ f) in

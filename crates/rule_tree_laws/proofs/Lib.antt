@@ -3,7 +3,8 @@ pub mod Partition
 pub mod SplitLinks
 pub mod Splitting
 pub mod Sound
-pub mod Unsplit
+pub mod Undone
+pub mod UndonePoints
 pub mod Growth
 pub mod GrowthTest
 pub mod EqualSelf

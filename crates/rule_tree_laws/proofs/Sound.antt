@@ -1,5 +1,5 @@
 -- The test of a tree as facts: each link, each split's owner, what each node holds. Assumes nothing.
-use mathlib.Core.Path.{_≡_, refl, sym, ap, _∙_}
+use mathlib.Core.Path.{_≡_, sym, _∙_}
 use mathlib.Core.Bool.{Bool, true, false}
 use Prim.Native.Nat.{ℕ, _+_, _*_, _<_, _≤_}
 use native.Mathlib.Omega.{arith}
@@ -9,7 +9,7 @@ use Rattle.remy.specs.Action.{validOf}
 use Rattle.remy.specs.Cube.{usualEnds}
 use Rattle.rule_tree.specs.declared.Node.{Node}
 use Rattle.rule_tree.specs.declared.RuleTree.{RuleTree}
-use Rattle.rule_tree.specs.Nodes.{nodeAt, nodeCount, noAction, parentWith, blankNode}
+use Rattle.rule_tree.specs.Nodes.{nodeAt, nodeCount, noAction, blankNode}
 use Rattle.rule_tree.specs.Grown.{plainOf, grownOf}
 use Rattle.rule_tree.proofs.LinkWays.{children-at}
 use Rattle.rule_tree.proofs.Plain.{ActionFits, PointFits, plain-action, plain-unmarked}
@@ -37,16 +37,15 @@ pub record Sound (t : RuleTree) : Type 0 where
   pub link : (i : ℕ) → i < 513 → (kids t i ≡ 0 → ⊥) → links.Link (t .splits) (kids t i) i
   pub owner : (k : ℕ) → k < t .splits → Owning t k
   pub only : (i j : ℕ) → i < 513 → j < 513 → (kids t i ≡ 0 → ⊥) → kids t j ≡ kids t i → j ≡ i
-  pub leaf : (i : ℕ) → i < nodeCount (t .splits) → kids t i ≡ 0 → validOf (nodeAt (t .nodes) i .action) ≡ true
-  pub parent : (i : ℕ) → i < 513 → (kids t i ≡ 0 → ⊥) → nodeAt (t .nodes) i ≡ parentWith (kids t i)
+  pub held : (i : ℕ) → i < nodeCount (t .splits) → validOf (nodeAt (t .nodes) i .action) ≡ true
   pub unused : (i : ℕ) → nodeCount (t .splits) ≤ i → i < 513 → nodeAt (t .nodes) i ≡ blankNode
 
 pub rebuilt : (x : Node) (a : Action) (c : ℕ) (m : Bool) → x .action ≡ a → x .children ≡ c → x .optimized ≡ m
     → x ≡ record { action = a; children = c; optimized = m }
 rebuilt x a c m p q r = λ j. record { action = p j; children = q j; optimized = r j }
 
-plain-node : (x : Node) → ActionFits (x .action) → plainOf x ≡ true → x ≡ parentWith (x .children)
-plain-node x f h = rebuilt x noAction (x .children) false (plain-action x h f) refl (plain-unmarked x h)
+plain-node : (x : Node) → ActionFits (x .action) → plainOf x ≡ true → x .children ≡ 0 → x ≡ blankNode
+plain-node x f h e = rebuilt x noAction 0 false (plain-action x h f) e (plain-unmarked x h)
 
 pub grown-sound : (t : RuleTree) → TreeFits t → grownOf t ≡ true → Sound t
 grown-sound t f g =
@@ -58,11 +57,9 @@ grown-sound t f g =
       link = λ i l n. linked i l n;
       owner = λ k l. owned k l;
       only = λ i j a b n e. links.grown-only t g i j a (λ z. n (sym (at i) ∙ z)) (at j ∙ e ∙ sym (at i));
-      leaf = links.grown-leaf-valid t g;
-      parent = λ i l n. plain-node (nodeAt (t .nodes) i) (f .actions i l) (links.grown-parent-plain t g i l n);
+      held = links.grown-valid t g;
       unused = λ i a l.
-          plain-node (nodeAt (t .nodes) i) (f .actions i l) (links.grown-unused-plain t g i a l)
-          ∙ ap parentWith (links.grown-unused-leaf t g i a l);
+          plain-node (nodeAt (t .nodes) i) (f .actions i l) (links.grown-unused-plain t g i a l) (links.grown-unused-leaf t g i a l);
     }
   where
     linked : (i : ℕ) → i < 513 → (kids t i ≡ 0 → ⊥) → links.Link (t .splits) (kids t i) i

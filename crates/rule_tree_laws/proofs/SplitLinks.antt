@@ -1,11 +1,10 @@
 -- A split keeps the test of a tree's links: one link is another, that of the leaf which it makes a parent. Assumes nothing.
-use mathlib.Core.Path.{_≡_, refl, sym, ap, subst, _∙_}
-use mathlib.Core.Bool.{true, cond}
+use mathlib.Core.Path.{_≡_, sym, ap, subst, _∙_}
+use mathlib.Core.Bool.{true}
 use mathlib.Core.Logic.{inl, inr, ⊎-elim, _≢_}
-use mathlib.Core.List.{List, [], _∷_}
-use Prim.Native.Nat.{ℕ, zero, suc, _+_, _-_, _*_, _<_, _≤_}
+use mathlib.Core.List.{List}
+use Prim.Native.Nat.{ℕ, _+_, _-_, _*_, _<_, _≤_}
 use native.Mathlib.Omega.{arith}
-use lib.Dec.{eqb}
 use lib.ListN.{getD, set, length, length-map, length-set}
 use lib.Seq.{ext-getD, getD-set-same, getD-set-other}
 use borrow.Author.Tests.{eq-eqb, ne-eqb}
@@ -22,21 +21,7 @@ use Rattle.rule_tree.proofs.Owners.{same-or-not, below-or-not}
 use Rattle.rule_tree.proofs.Links.{link-holds, link-more}
 use Rattle.rule_tree.proofs.Walking.{links-parent, linked-links, linked-owners, links-linked}
 use Rattle.rule_tree.proofs.GrownTree.{leaf-below, leaf-childless}
-use Rattle.rule_tree.proofs.Changing.{split-length, split-splits, split-parent, split-child, split-other}
-
--- ---- how often a number stands in a list after a store
-occurrences-set : (x v : ℕ) (cs : List ℕ) (i : ℕ) → i < length cs → getD cs i 0 ≢ x → occurrences x (set cs i v) ≡ cond (eqb v x) 1 0 + occurrences x cs
-unfolding occurrences
-occurrences-set x v [] i l n = absurd (omega arith)
-occurrences-set x v (c ∷ cs) zero l n = rw (ne-eqb c x n) (omega arith)
-occurrences-set x v (c ∷ cs) (suc i) l n = let h = occurrences-set x v cs i (omega arith) n in omega arith
-
-occurrences-none : (x : ℕ) (cs : List ℕ) → ((j : ℕ) → j < length cs → getD cs j 0 ≢ x) → occurrences x cs ≡ 0
-unfolding occurrences
-occurrences-none x [] h = refl
-occurrences-none x (c ∷ cs) h =
-    let a = occurrences-none x cs (λ j l. h (suc j) (omega arith)) in
-    rw (ne-eqb c x (h 0 (omega arith))) (omega arith)
+use Rattle.rule_tree.proofs.Changing.{occurrences-set, occurrences-none, split-length, split-splits, split-parent, split-child, split-other}
 
 pub links-513 : (nodes : List Node) → length nodes ≡ 513 → length (childrenOf nodes) ≡ 513
 links-513 nodes e = length-map nodes (λ x. x .children) ∙ e

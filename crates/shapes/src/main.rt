@@ -468,10 +468,56 @@ fn no_payloads(t: RuleTree) {
     say(b"a leaf's increment is too large: ");
     let large = action(1000001);
     parents(with_node(t, 3, large, 0, false));
+    say(b"a parent's increment is too large: ");
+    parents(with_node(t, 0, large, 1, false));
     say(b"other ends: ");
     let mut wide = t;
     wide.ends = Point::new(600.0, 600.0, 1001.0);
     parents(wide);
+}
+
+// The number of splits, and what node 3 holds.
+fn third(t: RuleTree) {
+    say(b"splits");
+    item(t.splits as u64);
+    let x = t.nodes[3];
+    if x.optimized {
+        say(b", marked");
+    } else {
+        say(b", unmarked");
+    }
+    let i = x.action.window_increment;
+    if i == 9 {
+        say(b", action 9\n");
+    } else {
+        say(b", another action\n");
+    }
+}
+
+fn undo(t: RuleTree) -> RuleTree {
+    let done = t.undo_split();
+    done.tree
+}
+
+fn taken_back(t: RuleTree) {
+    say(b"no split to take back: ");
+    let one = fresh();
+    show_changed(one.undo_split());
+    say(b"taken back, 65 splits: ");
+    let mut more = t;
+    more.splits = 65;
+    show_changed(more.undo_split());
+    say(b"leaf 3 with action 9, marked: ");
+    let held = mark(set(t, 3, 9), 3);
+    third(held);
+    say(b"split, its children given another: ");
+    let grown = set(split(held, 3), 9, 8);
+    third(grown);
+    say(b"all marks cleared and taken back: ");
+    let cleared = grown.mark_all_unoptimized();
+    third(undo(cleared.tree));
+    say(b"and once more: ");
+    parents(undo(undo(grown)));
 }
 
 fn large() {
@@ -510,4 +556,5 @@ fn main() {
     comparisons(t);
     no_links(t);
     no_payloads(t);
+    taken_back(t);
 }

@@ -3,11 +3,14 @@ ghost use mathlib.Core.Path.{_≡_};
 ghost use mathlib.Core.Bool.{true};
 ghost use Prim.Native.Nat.{_≤_, _<_};
 ghost use lib.Dec.{ltb};
+ghost use Rattle.rule_tree.specs.Lists.{fill};
 ghost use Rattle.rule_tree.specs.Nodes.{nodeCount};
-ghost use Rattle.rule_tree.specs.Change.{freshTree, withAction, withMark, unmarkedNode, withoutMarks, splitAt};
+ghost use Rattle.rule_tree.specs.Change.{freshTree, withNodes, withAction, withMark, unmarkedNode, withoutMarks, splitAt, newestParent, undone};
 ghost use Rattle.rule_tree.specs.Calls.{leafIn};
 use crate::Node;
 use crate::RuleTree;
+use crate::inner::cubes;
+use crate::inner::links;
 use remy::action::Action;
 use remy::point::Point;
 
@@ -111,6 +114,20 @@ pub fn without_marks(t: RuleTree) -> RuleTree
     out
 }
 
+// The eight nodes from a place on become x.
+fn eight_filled(t: RuleTree, from: usize, x: Node) -> RuleTree
+    requires { ⌜ from ≤ 505 ⌝ }
+    ensures { λ r. ⌜ r ≡ withNodes t (fill (t .nodes) from 8 x) ⌝ }
+{
+    let mut out = t;
+    let mut k: usize = 0;
+    while k < 8 {
+        out.nodes[from + k] = x;
+        k += 1;
+    }
+    out
+}
+
 pub fn split_at(t: RuleTree, i: u16) -> RuleTree
     requires { ⌜ (i < 513) × (t .splits < 64) ⌝ }
     ensures { λ r. ⌜ r ≡ splitAt t i ⌝ }
@@ -118,12 +135,11 @@ pub fn split_at(t: RuleTree, i: u16) -> RuleTree
     let at = i as usize;
     let x = t.nodes[at];
     let a = x.action;
-    let none = Action::new(0.0, 0, 0.0);
     let first = 8 * t.splits + 1;
     let parent = Node {
-        action: none,
+        action: a,
         children: first,
-        optimized: false,
+        optimized: x.optimized,
     };
     let child = Node {
         action: a,
@@ -132,12 +148,44 @@ pub fn split_at(t: RuleTree, i: u16) -> RuleTree
     };
     let mut out = t;
     out.nodes[at] = parent;
-    let from = first as usize;
-    let mut k: usize = 0;
-    while k < 8 {
-        out.nodes[from + k] = child;
-        k += 1;
-    }
-    out.splits = t.splits + 1;
-    out
+    let mut grown = eight_filled(out, first as usize, child);
+    grown.splits = t.splits + 1;
+    grown
+}
+
+// The node that the newest split made a parent.
+fn newest_parent(t: RuleTree) -> u16
+    requires { ⌜ (0 < t .splits) × (t .splits ≤ 64) ⌝ }
+    ensures { λ r. ⌜ r ≡ newestParent t ⌝ }
+{
+    let children = links::children_of(t);
+    let parents = cubes::split_nodes(&children);
+    let k = (t.splits - 1) as usize;
+    parents[k]
+}
+
+pub fn undo(t: RuleTree) -> RuleTree
+    requires { ⌜ (0 < t .splits) × (t .splits ≤ 64) ⌝ }
+    ensures { λ r. ⌜ r ≡ undone t ⌝ }
+{
+    let none = Action::new(0.0, 0, 0.0);
+    let blank = Node {
+        action: none,
+        children: 0,
+        optimized: false,
+    };
+    let at = newest_parent(t) as usize;
+    let x = t.nodes[at];
+    let a = x.action;
+    let kept = Node {
+        action: a,
+        children: 0,
+        optimized: x.optimized,
+    };
+    let mut out = t;
+    out.nodes[at] = kept;
+    let first = 8 * (t.splits - 1) + 1;
+    let mut before = eight_filled(out, first as usize, blank);
+    before.splits = t.splits - 1;
+    before
 }

@@ -120,10 +120,8 @@ fn slot_holds(x: Node, used: bool) -> bool
     ensures { λ r. ⌜ r ≡ slotHolds x used ⌝ }
 {
     if used {
-        if x.children == 0 {
-            let a = x.action;
-            return a.valid();
-        }
+        let a = x.action;
+        return a.valid();
     }
     plain(x)
 }
