@@ -9,6 +9,7 @@ use borrow.Author.Tests.{eq-eqb, eqb-true, le-leb}
 use lib.Dec.{eqb, leb}
 use lib.ListN.{length}
 use Rattle.rule_tree.specs.Grown.{grownOf}
+use Rattle.rule_tree_laws.proofs.Sound.{grown-sound}
 use Rattle.rule_tree.proofs.Plain.{and-l, and-r}
 use Rattle.trainer.specs.declared.Trainer.{Trainer}
 use Rattle.trainer.specs.declared.Answered.{Answered}
@@ -24,7 +25,7 @@ use Rattle.record.specs.Calls.{lengthHolds, versionHolds, againOf, bodyH
 use Rattle.record.proofs.Bytes.{bytes-count, same-self, same-is}
 use Rattle.record.proofs.Size.{body-size, record-size, record-small}
 use Rattle.record.proofs.Stands.{stands-all, first, next, number-back, byte-back}
-use Rattle.record.proofs.RoundTrip.{TrainerFits, Carried, carried-grown, read-back}
+use Rattle.record.proofs.RoundTrip.{TrainerFits, Carried, carried-parents, read-back}
 
 -- ---- the ways through load
 module _ (bytes : List ℕ) where
@@ -119,7 +120,7 @@ module _ (v : ℕ) (k : knownOf v ≡ true) (t : Trainer) (f : TrainerFits t) (a
   load-carried = sym (load-taken bytes written-length written-version written-body) ∙ ap taken read-same
 
 pub load-saved : (t : Trainer) → TrainerFits t → acceptedOf t ≡ true → loadOf (recordOf t) ≡ taken t
-load-saved t f a = load-carried version refl t f a (carried-grown (layoutOf version) t f (accepted-grown t a))
+load-saved t f a = load-carried version refl t f a (carried-parents (layoutOf version) t refl (λ z. grown-sound (t .tree) (f .tree) (accepted-grown t a) .ends))
 
 -- ---- what is taken is written again as the same bytes
 pub record Loaded (bytes : List ℕ) (t : Trainer) : Type 0 where
@@ -154,8 +155,6 @@ load-again bytes t e = by (lengthHolds bytes) refl
     by true q = by-version q (versionHolds bytes) refl
     by false q = absurd (never 5 (load-short bytes q ∙ e))
 
--- of the one version that is known so far: the same bytes as a save writes
-pub load-written : (bytes : List ℕ) (t : Trainer) → loadOf bytes ≡ taken t → (acceptedOf t ≡ true) × (recordOf t ≡ bytes)
-load-written bytes t e =
-    let l = load-again bytes t e in
-    (l .accepted, ap (λ (n : ℕ). recordIn (layoutOf n) n t) (sym (eqb-true (versionAt bytes) 1 (l .known))) ∙ l .again)
+-- the bytes of the version that is saved are those that a save writes
+pub load-written : (bytes : List ℕ) (t : Trainer) → loadOf bytes ≡ taken t → versionAt bytes ≡ version → recordOf t ≡ bytes
+load-written bytes t e v = ap (λ (n : ℕ). recordIn (layoutOf n) n t) (sym v) ∙ load-again bytes t e .again

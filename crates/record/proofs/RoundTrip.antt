@@ -290,15 +290,10 @@ carried-whole lay t p e =
       ends = λ z. absurd (never (sym z ∙ e));
     }
 
--- every layout carries a grown tree: its parents hold nothing, and its ends are the usual ones
-pub carried-grown : (lay : Layout) (t : Trainer) → TrainerFits t → grownOf (t .tree) ≡ true → Carried lay t
-carried-grown lay t f g =
-    let sound = grown-sound (t .tree) (f .tree) g in
+-- one that writes every node carries every trainer whose ends it carries
+pub carried-parents : (lay : Layout) (t : Trainer) → lay .parents ≡ true → (lay .ends ≡ false → t .tree .ends ≡ usualEnds) → Carried lay t
+carried-parents lay t p e =
     record {
-      parents = λ i l z. sound .parent i l (λ e. never (sym z ∙ leaf-carried (lay .parents) (kids (t .tree) i) e));
-      ends = λ z. sound .ends;
+      parents = λ i l z. absurd (never (sym z ∙ ap (λ (b : Bool). b || eqb (kids (t .tree) i) 0) p));
+      ends = e;
     }
-  where
-    leaf-carried : (b : Bool) (c : ℕ) → c ≡ 0 → (b || eqb c 0) ≡ true
-    leaf-carried true c e = refl
-    leaf-carried false c e = eq-eqb c 0 e

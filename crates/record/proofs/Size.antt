@@ -28,7 +28,7 @@ use Rattle.record.specs.Write.{settingsBytes, splitsBytes, numbersBytes,
 use Rattle.record.specs.Parts.{nodeFields}
 use Rattle.record.proofs.Bytes.{bytes-count}
 use Rattle.record.proofs.Stores.{wrote}
-use Rattle.record.proofs.Layouts.{size-most, size-first}
+use Rattle.record.proofs.Layouts.{size-most, size-second}
 use Rattle.record.proofs.Writing.{settings-count, state-count, list-count, point-count}
 
 -- ---- sums over the splits
@@ -234,16 +234,16 @@ module _ (lay : Layout) (v : ℕ) (t : Trainer) (g : grownOf (t .tree) ≡ true)
 
 module _ (t : Trainer) (g : grownOf (t .tree) ≡ true) (full : length (t .tree .nodes) ≡ 513) where
   -- a record of s splits has 172 + 149 s bytes
-  pub record-count : length (recordOf t) ≡ 172 + 149 * t .tree .splits
-  record-count = record-size (layoutOf version) version t g full ∙ size-first (t .tree .splits)
+  pub record-count : length (recordOf t) ≡ 172 + 170 * t .tree .splits
+  record-count = record-size (layoutOf version) version t g full ∙ size-second (t .tree .splits)
 
   pub record-fresh : t .tree .splits ≡ 0 → length (recordOf t) ≡ 172
   record-fresh e = let h = record-count in omega arith
 
-  pub record-most : t .tree .splits ≡ 64 → length (recordOf t) ≡ 9708
+  pub record-most : t .tree .splits ≡ 64 → length (recordOf t) ≡ 11052
   record-most e = let h = record-count in omega arith
 
-  pub record-fits : length (recordOf t) ≤ 9708
+  pub record-fits : length (recordOf t) ≤ 11052
   record-fits = let h = record-count in let l = few (t .tree) g full in omega arith
 
 -- ---- the record, part after part

@@ -1,9 +1,8 @@
 -- How a version of the record lays a trainer out: which of its parts are written, at which places, and how many bytes.
-use mathlib.Core.Bool.{Bool, _||_, cond}
+use mathlib.Core.Bool.{Bool, _&&_, _||_, cond}
 use Prim.Native.Nat.{ℕ, _+_, _*_}
-use lib.Dec.{eqb, ltb}
+use lib.Dec.{eqb, ltb, leb}
 use Rattle.remy.specs.declared.action.Action.{Action}
-use Rattle.rule_tree.specs.Nodes.{noAction}
 use Rattle.trainer.specs.declared.settings.Settings.{Settings}
 use Rattle.record.specs.declared.inner.layout.Layout.{Layout}
 
@@ -13,7 +12,7 @@ layoutOf v = record { parents = ltb 1 v; ends = ltb 2 v }
 
 -- the versions that are known: so far the first
 abbrev pub knownOf : ℕ → Bool
-knownOf v = eqb v 1
+knownOf v = leb 1 v && leb v 2
 
 -- whether the action and mark of a node with the first child c are written
 abbrev pub carries : Layout → ℕ → Bool
@@ -21,7 +20,7 @@ carries l c = l .parents || eqb c 0
 
 -- what a parent holds that is not written
 abbrev pub givenAction : Settings → Action
-givenAction s = noAction
+givenAction s = s .«default_action»
 
 -- the bytes of the upper ends
 unfoldable pub endsSize : Layout → ℕ

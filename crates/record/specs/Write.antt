@@ -79,7 +79,7 @@ recordIn l v t = bytesOf 4 (length (bodyIn l v t)) ++ bodyIn l v t
 
 -- "version byte 1": what is saved
 abbrev pub version : ℕ
-version = 1
+version = 2
 
 abbrev pub bodyOf : Trainer → List ℕ
 bodyOf t = bodyIn (layoutOf version) version t

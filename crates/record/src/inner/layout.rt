@@ -22,7 +22,10 @@ pub fn of_version(v: u8) -> Layout
 pub fn known(v: u8) -> bool
     ensures { λ r. ⌜ r ≡ knownOf v ⌝ }
 {
-    v == 1
+    if v < 1 {
+        return false;
+    }
+    v <= 2
 }
 
 // A node with the first child c is written.
@@ -39,7 +42,7 @@ pub fn carries_node(l: Layout, c: u16) -> bool
 pub fn given(s: Settings) -> Action
     ensures { λ r. ⌜ r ≡ givenAction s ⌝ }
 {
-    Action::new(0.0, 0, 0.0)
+    s.default_action
 }
 
 pub fn ends_size(l: Layout) -> usize
