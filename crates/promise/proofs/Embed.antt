@@ -1,5 +1,5 @@
 -- The trainer's tree that a plain tree stands for, node by node. Assumes nothing.
-use mathlib.Core.Path.{_≡_, sym, _∙_}
+use mathlib.Core.Path.{_≡_, sym, ap, _∙_}
 use mathlib.Core.Bool.{true, false, not, cond}
 use mathlib.Core.List.{List}
 use Prim.Native.Nat.{ℕ, _*_, _<_, _≤_}
@@ -14,29 +14,33 @@ use Rattle.remy.specs.Cube.{usualEnds}
 use Rattle.rule_tree.specs.declared.Node.{Node}
 use Rattle.rule_tree.specs.declared.RuleTree.{RuleTree}
 use Rattle.rule_tree.specs.Lists.{tabulate}
-use Rattle.rule_tree.specs.Nodes.{noNode, nodeAt, parentWith, blankNode}
+use Rattle.rule_tree.specs.Nodes.{noNode, nodeAt, blankNode}
 use Rattle.rule_tree.proofs.Lists.{length-tabulate, getD-tabulate}
 use Rattle.rule_tree.proofs.Counting.{and-left, and-right}
 use Rattle.promise.specs.PlainTree.{Tree, Rule, nodes, member, isLeaf, ruleAt}
-use Rattle.promise.proofs.Links.{link, link-owner}
+use Rattle.promise.proofs.Links.{link, link-owner, link-leaf}
+
+-- the node with a rule and a first child, 0 for a leaf
+abbrev pub nodeWith : Rule → ℕ → Node
+nodeWith r c = record { action = r .action; children = c; optimized = r .marked }
 
 abbrev pub leafNode : Rule → Node
-leafNode r = record { action = r .action; children = 0; optimized = r .marked }
+leafNode r = nodeWith r 0
 
+-- "parents keep action and mark"
 unfoldable pub nodeOf : Tree → ℕ → Node
-nodeOf t i =
-    cond (ltb i (nodes t)) (cond (member i (t .splits)) (parentWith (link 0 (t .splits) i)) (leafNode (ruleAt t i))) blankNode
+nodeOf t i = cond (ltb i (nodes t)) (nodeWith (ruleAt t i) (link 0 (t .splits) i)) blankNode
 
 abbrev pub embedTree : Tree → RuleTree
 embedTree t = record { nodes = tabulate 513 (nodeOf t); splits = length (t .splits); ends = usualEnds }
 
--- "at most 64 splits, each names a leaf then", one rule a node, and the leaves' actions valid
+-- "at most 64 splits, each names a leaf then", one rule a node, and the actions valid
 pub record ValidTree (t : Tree) : Type 0 where
   pub few : length (t .splits) ≤ 64
   pub sized : length (t .rules) ≡ nodes t
   pub grew : (k : ℕ) → k < length (t .splits) → getD (t .splits) k 0 ≤ 8 * k
   pub once : (k : ℕ) → k < length (t .splits) → member (getD (t .splits) k 0) (take k (t .splits)) ≡ false
-  pub actions : (i : ℕ) → isLeaf t i ≡ true → validOf (ruleAt t i .action) ≡ true
+  pub actions : (i : ℕ) → i < nodes t → validOf (ruleAt t i .action) ≡ true
 
 -- ---- leaves
 module _ (t : Tree) (i : ℕ) where
@@ -55,13 +59,12 @@ module _ (t : Tree) (i : ℕ) where
       omega (arith, o .is, o .below, v .grew (o .at) (o .below))
 
   -- ---- nodes
-  pub node-leaf : i < nodes t → member i (t .splits) ≡ false → nodeOf t i ≡ leafNode (ruleAt t i)
+  pub node-used : i < nodes t → nodeOf t i ≡ nodeWith (ruleAt t i) (link 0 (t .splits) i)
   unfolding nodeOf
-  node-leaf l m = rw (lt-ltb i (nodes t) l, m)
+  node-used l = rw (lt-ltb i (nodes t) l)
 
-  pub node-parent : i < nodes t → member i (t .splits) ≡ true → nodeOf t i ≡ parentWith (link 0 (t .splits) i)
-  unfolding nodeOf
-  node-parent l m = rw (lt-ltb i (nodes t) l, m)
+  pub node-leaf : i < nodes t → member i (t .splits) ≡ false → nodeOf t i ≡ leafNode (ruleAt t i)
+  node-leaf l m = node-used l ∙ ap (nodeWith (ruleAt t i)) (link-leaf 0 (t .splits) i m)
 
   pub node-blank : nodes t ≤ i → nodeOf t i ≡ blankNode
   unfolding nodeOf

@@ -20,6 +20,7 @@ use Rattle.record.specs.declared.Saved.{Saved}
 use Rattle.record.specs.declared.Saved.the-variants.{Size, Refused}
 use Rattle.record.specs.Write.{recordOf}
 use Rattle.record.specs.Calls.{saveOf, bufferAfter, loadOf}
+use Rattle.record.proofs.RoundTrip as stored
 use Rattle.promise.specs.PlainTrainer.{State, start, recordBytes, Call, counts, score, step, question}
 use Rattle.promise.proofs.Embed.{embedTree}
 use Rattle.promise.proofs.States.{embed, answered, ValidState}
@@ -74,6 +75,10 @@ module _ (t : Trainer) (a : acceptedOf t ≡ true) (f : TrainerFits t) where
   fitting : FitState (plainOf t)
   fitting = plain-fits t a f
 
+  -- all of its values are of their types, whole numbers too
+  pub whole-typed : stored.TrainerFits t
+  whole-typed = subst stored.TrainerFits (plain-embeds t a f) (embed-typed (plainOf t) valid fitting)
+
   pub counts-step : (xs : List ℕ) → answerCountsOf t xs ≡ answered (step (plainOf t) (counts xs))
   unfolding step
   counts-step xs = ap (λ (u : Trainer). answerCountsOf u xs) back ∙ answer-counts-embeds (plainOf t) valid xs
@@ -92,7 +97,7 @@ module _ (t : Trainer) (a : acceptedOf t ≡ true) (f : TrainerFits t) where
   pub load-back : loadOf (recordOf t) ≡ taken t
   load-back = ap loadOf record-written ∙ load-embeds (plainOf t) valid fitting ∙ ap taken (plain-embeds t a f)
 
-  pub record-size : length (recordOf t) ≡ 172 + 149 * t .tree .splits
+  pub record-size : length (recordOf t) ≡ 172 + 170 * t .tree .splits
   record-size =
       ap length record-written ∙ record-length (plainOf t) valid fitting
       ∙ (let e = nodes-count (t .tree) (accepted-grown t a) in omega arith)

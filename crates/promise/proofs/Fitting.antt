@@ -12,7 +12,7 @@ use Rattle.remy.specs.Cube as cube
 use Rattle.trainer.specs.declared.settings.Settings.{Settings}
 use Rattle.trainer.specs.Settings.{multiplierAxis, incrementAxis, delayAxis}
 use Rattle.trainer.specs.Candidates.{flatMap, filter, floatChanges, wholeChanges, changed, allChanges, insideOf, candidatesOf, noCandidate}
-use Rattle.promise.specs.PlainTree.{Tree, Rule, Choice, nobody, leaf, unmarked, ruleAt, leaves, unmarkedLeaves, mostUsed, used, sum, countsTaken, split, setAction, mark, clearMarks}
+use Rattle.promise.specs.PlainTree.{Tree, Rule, Choice, nobody, leaf, nodes, isLeaf, unmarked, ruleAt, leaves, unmarkedLeaves, mostUsed, used, sum, countsTaken, split, setAction, mark, from, clearedRule, clearMarks}
 use Rattle.promise.specs.PlainTrainer.{State, Phase, Kept, nothing, just, phase1, phase2, phase3, phase4, phase5, phase6, phase7, Outcome, at, beginLaterStage, beginRound, start, become, refuse, splitChosen, answer1, answer2, answer3, tryAll, keep, afterLast, answer5, counted, scored, keptScore, recordBytes, Call, counts, score, reload, step}
 use Rattle.promise.specs.Values.{Every, FitAction, FitSettings, FitCall}
 use Rattle.promise.proofs.TreeSteps.{noRule}
@@ -116,9 +116,12 @@ round-fits s t i r g h = go (ltb r (s .rounds)) (ltb (s .«rule_splits») (i + 1
 pub start-fits : (s : Settings) → FitSettings s → FitState (start s)
 start-fits s g = round-fits s _ 0 0 g (g .default, tt)
 
-cleared-fits : (rs : List Rule) → Every FitRule rs → Every FitRule (map (λ (r : Rule). unmarked (r .action)) rs)
-cleared-fits [] h = tt
-cleared-fits (r ∷ rs) h = (h .0, cleared-fits rs (h .1))
+cleared-fits : (t : Tree) → Every FitRule (t .rules) → Every FitRule (clearMarks t .rules)
+cleared-fits t h = every-mapped FitRule (clearedRule t) (from 0 (nodes t)) (λ i. go i (isLeaf t i))
+  where
+    go : (i : ℕ) (z : Bool) → FitRule (cond z (unmarked (ruleAt t i .action)) (ruleAt t i))
+    go i true = rule-fits t i h
+    go i false = rule-fits t i h
 
 module _ (t : Tree) (h : Every FitRule (t .rules)) where
   split-fits : (b : ℕ) → Every FitRule (split t b .rules)
@@ -172,11 +175,11 @@ module _ (s : Settings) (t : Tree) (i r : ℕ) (xs : List ℕ) (g : FitSettings 
 
   fits3 : (c : Choice) → FitState (answer3 (at s t i r phase3) xs c)
   unfolding answer3
-  fits3 nobody = round-fits s (clearMarks t) i (r + 1) g (cleared-fits (t .rules) h)
+  fits3 nobody = round-fits s (clearMarks t) i (r + 1) g (cleared-fits t h)
   fits3 (leaf b) = go (eqb (getD xs b 0) 0 && not (eqb (sum xs) 0))
     where
       go : (z : Bool) → FitState (cond z (beginRound s (clearMarks t) i (r + 1)) (at s t i r (phase4 b)))
-      go true = round-fits s (clearMarks t) i (r + 1) g (cleared-fits (t .rules) h)
+      go true = round-fits s (clearMarks t) i (r + 1) g (cleared-fits t h)
       go false = record { settings = g; rules = h; phase = tt }
 
 counted-in : (s : Settings) (t : Tree) (i r : ℕ) (p : Phase) → FitState (at s t i r p) → (xs : List ℕ) → FitState (counted (at s t i r p) xs p .state)

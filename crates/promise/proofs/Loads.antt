@@ -1,33 +1,39 @@
--- The loader accepts exactly the records of accepted trainers: what it accepts is written again as the same bytes, and what an accepted
--- trainer writes it accepts. Assumes nothing.
+-- The loader accepts exactly the records of accepted trainers, in the versions that it knows: what it accepts is written again, in its own
+-- version, as the same bytes, and what an accepted trainer writes it accepts. Assumes nothing.
 use mathlib.Core.Path.{_≡_, refl, sym, ap, subst, _∙_}
-use mathlib.Core.Bool.{Bool, true, false, cond}
+use mathlib.Core.Bool.{Bool, true, false, _||_, cond}
 use mathlib.Core.List.{List}
 use Prim.Native.Nat.{ℕ, _+_, _<_}
 use native.Mathlib.Omega.{arith}
-use borrow.Author.Tests.{ltb-true, eqb-true}
+use borrow.Author.Tests.{ltb-true, ltb-false}
 use lib.Dec.{ltb}
 use Rattle.floats.proofs.Bits.{read-fits}
+use Rattle.remy.specs.declared.action.Action.{Action}
+use Rattle.remy.specs.Cube.{usualEnds}
 use Rattle.rule_tree.specs.declared.Node.{Node}
-use Rattle.rule_tree.specs.Nodes.{noNode, nodeAt, nodeCount, noAction, parentWith, blankNode}
+use Rattle.rule_tree.specs.Nodes.{noNode, nodeAt, nodeCount, blankNode}
 use Rattle.rule_tree.proofs.Lists.{length-tabulate, getD-tabulate}
-use Rattle.rule_tree.proofs.Links.{grown-leaf-valid}
-use Rattle.rule_tree.proofs.Plain.{ActionFits}
+use Rattle.rule_tree.proofs.Links.{grown-valid}
+use Rattle.rule_tree.proofs.Plain.{ActionFits, PointFits}
 use Rattle.trainer.specs.declared.Trainer.{Trainer}
 use Rattle.trainer.specs.declared.Answered.{Answered}
 use Rattle.trainer.specs.State.{acceptedOf}
 use Rattle.trainer.specs.Phases.{taken, refuse}
 use Rattle.trainer.specs.Calls.{blankTrainer}
 use Rattle.record.specs.declared.inner.layout.Layout.{Layout}
-use Rattle.record.specs.Layout.{layoutOf, listPlace}
-use Rattle.record.specs.Write.{version, recordOf}
-use Rattle.record.specs.Read.{actionAt, flagAt, linkOf, carriedAt, payloadPlace, nodeAtPlace, splitCount, readIn, versionAt, readOf}
+use Rattle.record.specs.Layout.{layoutOf, knownOf, carries, givenAction, listPlace}
+use Rattle.record.specs.Write.{version, recordIn, recordOf}
+use Rattle.record.specs.Read.{actionAt, flagAt, settingsAt, pointAt, linkOf, payloadPlace, nodeWith, nodeAtPlace, splitCount, readIn, versionAt, readOf}
 use Rattle.record.specs.Calls.{lengthHolds, versionHolds, bodyHolds, loadOf}
+use Rattle.record.proofs.Size.{carried}
+use Rattle.record.proofs.Reading.{node-is, unused-is}
+use Rattle.record.proofs.RoundTrip.{Carried}
 use Rattle.record.proofs.Loading as loading
 use Rattle.promise.specs.Values.{FitAction}
+use Rattle.promise.proofs.Links.{no, or-right}
 use Rattle.promise.proofs.Unembed.{TrainerFits, accepted-grown}
 use Rattle.promise.proofs.Reload.{valid-fits, none-fits, ends-fit}
-use Rattle.promise.proofs.EveryTrainer.{load-back}
+use Rattle.promise.proofs.EveryTrainer.{whole-typed, load-back}
 
 -- ---- what a load that is not refused found
 not-refused :
@@ -43,62 +49,82 @@ load-found : (bytes : List ℕ) → loadOf bytes .refused ≡ 0 → loadOf bytes
 unfolding loadOf
 load-found bytes h = not-refused (readOf bytes) (lengthHolds bytes) (versionHolds bytes) (bodyHolds bytes) h
 
+-- ---- the node that is read at a place
+abbrev carriedNode : List ℕ → ℕ → ℕ → Node
+carriedNode bytes at c = record { action = actionAt bytes at; children = c; optimized = flagAt bytes (at + 20) }
+
+abbrev givenNode : Action → ℕ → Node
+givenNode a c = record { action = a; children = c; optimized = false }
+
+-- a node that the layout does not carry is given the action a, unmarked
+given-node :
+    (lay : Layout) (a : Action) (bytes : List ℕ) (at c : ℕ) (x : Node) → x ≡ nodeWith lay a bytes at c → carries lay (x .children) ≡ false
+    → x ≡ givenNode a (x .children)
+given-node lay a bytes at c x q e = go (carries lay c) refl q
+  where
+    go : (z : Bool) → carries lay c ≡ z → x ≡ cond z (carriedNode bytes at c) (givenNode a c) → x ≡ givenNode a (x .children)
+    go true p q = absurd (no (carries lay c) p (ap (carries lay) (sym (ap (λ (n : Node). n .children) q)) ∙ e))
+    go false p q = q ∙ ap (givenNode a) (sym (ap (λ (n : Node). n .children) q))
+
 -- ---- what is read is of its types
 action-typed : (bytes : List ℕ) (at : ℕ) → FitAction (actionAt bytes at)
 action-typed bytes at = record { multiplier = read-fits _; delay = read-fits _ }
 
--- the version's layout writes leaves alone
-abbrev lay : Layout
-lay = layoutOf version
+-- a node's action stands at its place or, where the layout does not carry it, at the settings' default
+node-action-typed :
+    (lay : Layout) (bytes : List ℕ) (at c : ℕ) → FitAction (nodeWith lay (givenAction (settingsAt bytes 5)) bytes at c .action)
+node-action-typed lay bytes at c = go (carries lay c)
+  where
+    go : (z : Bool) → FitAction (cond z (carriedNode bytes at c) (givenNode (givenAction (settingsAt bytes 5)) c) .action)
+    go true = action-typed bytes at
+    go false = action-typed bytes 98
 
--- the node that is read where a leaf stands
-abbrev leafRead : List ℕ → ℕ → ℕ → Node
-leafRead bytes s i =
-    record {
-      action = actionAt bytes (payloadPlace lay bytes s i);
-      children = linkOf bytes (listPlace lay) s i;
-      optimized = flagAt bytes (payloadPlace lay bytes s i + 20);
-    }
-
-node-place :
-    (bytes : List ℕ) (s i : ℕ)
-    → nodeAtPlace lay noAction bytes s i ≡ cond (ltb i (nodeCount s)) (cond (carriedAt lay bytes s i) (leafRead bytes s i) (parentWith (linkOf bytes (listPlace lay) s i))) blankNode
-unfolding nodeAtPlace
-node-place bytes s i = refl
-
-module _ (bytes : List ℕ) (a : acceptedOf (readIn (layoutOf version) bytes) ≡ true) where
+module _ (lay : Layout) (bytes : List ℕ) where
   abbrev read : Trainer
   read = readIn lay bytes
 
   abbrev count : ℕ
   count = splitCount lay bytes
 
-  node-typed : (i : ℕ) → i < 513 → ActionFits (nodeAt (read .tree .nodes) i .action)
-  node-typed i l =
-      go (ltb i (nodeCount count)) refl (carriedAt lay bytes count i) refl
-      (getD-tabulate 513 i (nodeAtPlace lay noAction bytes count) noNode l ∙ node-place bytes count i)
+  abbrev given : Action
+  given = givenAction (settingsAt bytes 5)
+
+  abbrev place : ℕ → ℕ
+  place i = payloadPlace lay bytes count i
+
+  abbrev child : ℕ → ℕ
+  child i = linkOf bytes (listPlace lay) count i
+
+  read-used : (i : ℕ) → i < 513 → ltb i (nodeCount count) ≡ true → nodeAt (read .tree .nodes) i ≡ nodeWith lay given bytes (place i) (child i)
+  read-used i l p =
+      getD-tabulate 513 i (nodeAtPlace lay given bytes count) noNode l ∙ sym (node-is lay given bytes count i (ltb-true i (nodeCount count) p))
+
+  read-unused : (i : ℕ) → i < 513 → ltb i (nodeCount count) ≡ false → nodeAt (read .tree .nodes) i ≡ blankNode
+  read-unused i l p =
+      getD-tabulate 513 i (nodeAtPlace lay given bytes count) noNode l ∙ unused-is lay given bytes count i (ltb-false i (nodeCount count) p)
+
+  node-typed : acceptedOf (readIn lay bytes) ≡ true → (i : ℕ) → i < 513 → ActionFits (nodeAt (read .tree .nodes) i .action)
+  node-typed a i l = go (ltb i (nodeCount count)) refl
     where
-      x : Node
-      x = nodeAt (read .tree .nodes) i
+      go : (y : Bool) → ltb i (nodeCount count) ≡ y → ActionFits (nodeAt (read .tree .nodes) i .action)
+      go true p =
+          valid-fits (nodeAt (read .tree .nodes) i .action) (grown-valid (read .tree) (accepted-grown read a) i (ltb-true i (nodeCount count) p))
+          (subst (λ (n : Node). FitAction (n .action)) (sym (read-used i l p)) (node-action-typed lay bytes (place i) (child i)))
+      go false p = subst (λ (n : Node). ActionFits (n .action)) (sym (read-unused i l p)) none-fits
 
-      go :
-          (y : Bool) → ltb i (nodeCount count) ≡ y → (z : Bool) → carriedAt lay bytes count i ≡ z
-          → x ≡ cond y (cond z (leafRead bytes count i) (parentWith (linkOf bytes (listPlace lay) count i))) blankNode
-          → ActionFits (x .action)
-      go true p true q e =
-          valid-fits (x .action)
-          (grown-leaf-valid (read .tree) (accepted-grown read a) i (ltb-true i (nodeCount count) p)
-          (ap (λ (n : Node). n .children) e ∙ eqb-true (linkOf bytes (listPlace lay) count i) 0 q))
-          (subst (λ (n : Node). FitAction (n .action)) (sym e) (action-typed bytes (payloadPlace lay bytes count i)))
-      go true p false q e = subst (λ (n : Node). ActionFits (n .action)) (sym e) none-fits
-      go false p z q e = subst (λ (n : Node). ActionFits (n .action)) (sym e) none-fits
+  ends-typed : PointFits (read .tree .ends)
+  ends-typed = go (lay .ends)
+    where
+      go : (z : Bool) → PointFits (cond z (pointAt bytes 118) usualEnds)
+      go true = record { acks = read-fits _; sends = read-fits _; ratios = read-fits _ }
+      go false = ends-fit
 
-  read-typed : TrainerFits (readIn (layoutOf version) bytes)
-  read-typed =
+  read-typed : acceptedOf (readIn lay bytes) ≡ true → TrainerFits (readIn lay bytes)
+  read-typed a =
       record {
-        sized = length-tabulate 513 (nodeAtPlace lay noAction bytes count);
-        nodes = node-typed;
-        ends = ends-fit;
+        sized = length-tabulate 513 (nodeAtPlace lay given bytes count);
+        nodes = node-typed a;
+        ends = ends-typed;
         settings =
             record {
               least = action-typed bytes 18;
@@ -111,41 +137,76 @@ module _ (bytes : List ℕ) (a : acceptedOf (readIn (layoutOf version) bytes) �
         score = read-fits _;
       }
 
+  -- what the layout does not write is what is read in its place
+  read-carried : Carried lay (readIn lay bytes)
+  read-carried =
+      record {
+        parents = λ i l e. go i l e (ltb i (nodeCount count)) refl;
+        ends = λ e. ap (λ (z : Bool). cond z (pointAt bytes 118) usualEnds) e;
+      }
+    where
+      go :
+          (i : ℕ) → i < 513 → carried lay (read .tree .nodes) i ≡ false → (y : Bool) → ltb i (nodeCount count) ≡ y
+          → nodeAt (read .tree .nodes) i ≡ givenNode given (nodeAt (read .tree .nodes) i .children)
+      go i l e true p = given-node lay given bytes (place i) (child i) (nodeAt (read .tree .nodes) i) (read-used i l p) e
+      go i l e false p =
+          absurd (no (lay .parents || true) (or-right (lay .parents) true refl) (ap (λ (n : Node). carries lay (n .children)) (sym (read-unused i l p)) ∙ e))
+
 -- ---- what a load accepts
-pub load-accepted : (bytes : List ℕ) → loadOf bytes .refused ≡ 0 → acceptedOf (loadOf bytes .trainer) ≡ true
-load-accepted bytes h =
-    let p = load-found bytes h in
-    ap (λ (r : Answered). acceptedOf (r .trainer)) p ∙ loading.load-again bytes (readOf bytes) p .accepted
+module _ (bytes : List ℕ) (h : loadOf bytes .refused ≡ 0) where
+  found : loadOf bytes ≡ taken (readOf bytes)
+  found = load-found bytes h
 
-pub load-typed : (bytes : List ℕ) → loadOf bytes .refused ≡ 0 → TrainerFits (loadOf bytes .trainer)
-load-typed bytes h =
-    let p = load-found bytes h in
-    let k = loading.load-again bytes (readOf bytes) p in
-    let e : readOf bytes ≡ readIn (layoutOf version) bytes =
-    ap (λ (v : ℕ). readIn (layoutOf v) bytes) (eqb-true (versionAt bytes) 1 (k .known)) in
-    subst (λ (r : Answered). TrainerFits (r .trainer)) (sym p)
-    (subst TrainerFits (sym e) (read-typed bytes (subst (λ (t : Trainer). acceptedOf t ≡ true) e (k .accepted))))
+  again : loading.Loaded bytes (readOf bytes)
+  again = loading.load-again bytes (readOf bytes) found
 
-pub load-written : (bytes : List ℕ) → loadOf bytes .refused ≡ 0 → recordOf (loadOf bytes .trainer) ≡ bytes
-load-written bytes h =
-    let p = load-found bytes h in
-    ap (λ (r : Answered). recordOf (r .trainer)) p ∙ loading.load-written bytes (readOf bytes) p .1
+  pub load-accepted : acceptedOf (loadOf bytes .trainer) ≡ true
+  load-accepted = ap (λ (r : Answered). acceptedOf (r .trainer)) found ∙ again .accepted
+
+  pub load-typed : TrainerFits (loadOf bytes .trainer)
+  load-typed = subst (λ (r : Answered). TrainerFits (r .trainer)) (sym found) (read-typed (layoutOf (versionAt bytes)) bytes (again .accepted))
+
+  load-carried : Carried (layoutOf (versionAt bytes)) (loadOf bytes .trainer)
+  load-carried =
+      subst (λ (r : Answered). Carried (layoutOf (versionAt bytes)) (r .trainer)) (sym found) (read-carried (layoutOf (versionAt bytes)) bytes)
+
+  load-again : recordIn (layoutOf (versionAt bytes)) (versionAt bytes) (loadOf bytes .trainer) ≡ bytes
+  load-again = ap (λ (r : Answered). recordIn (layoutOf (versionAt bytes)) (versionAt bytes) (r .trainer)) found ∙ again .again
+
+  -- "only version 2 bytes are compared in a save and load"
+  pub load-written : versionAt bytes ≡ version → recordOf (loadOf bytes .trainer) ≡ bytes
+  load-written v = ap (λ (n : ℕ). recordIn (layoutOf n) n (loadOf bytes .trainer)) (sym v) ∙ load-again
+
+  -- whatever version was loaded, what is saved then loads as the same trainer
+  pub saved-again : loadOf (recordOf (loadOf bytes .trainer)) ≡ taken (loadOf bytes .trainer)
+  saved-again = load-back (loadOf bytes .trainer) load-accepted load-typed
 
 -- "the trainer that wrote it" is accepted
 pub written-loads : (t : Trainer) → acceptedOf t ≡ true → TrainerFits t → loadOf (recordOf t) .refused ≡ 0
 written-loads t a f = ap (λ (r : Answered). r .refused) (load-back t a f)
 
--- ---- bytes are accepted exactly when they are the record of an accepted trainer
-pub record RecordOf (bytes : List ℕ) (t : Trainer) : Type 0 where
+-- ---- bytes are accepted exactly when they are the record, in a version that is known, of an accepted trainer that this version can carry
+pub record RecordOf (v : ℕ) (bytes : List ℕ) (t : Trainer) : Type 0 where
   pub accepted : acceptedOf t ≡ true
   pub typed : TrainerFits t
-  pub written : recordOf t ≡ bytes
+  pub known : knownOf v ≡ true
+  pub carries : Carried (layoutOf v) t
+  pub written : recordIn (layoutOf v) v t ≡ bytes
 
-pub accepts-records : (bytes : List ℕ) → loadOf bytes .refused ≡ 0 → RecordOf bytes (loadOf bytes .trainer)
-accepts-records bytes h = record { accepted = load-accepted bytes h; typed = load-typed bytes h; written = load-written bytes h }
+pub accepts-records : (bytes : List ℕ) → loadOf bytes .refused ≡ 0 → RecordOf (versionAt bytes) bytes (loadOf bytes .trainer)
+accepts-records bytes h =
+    record {
+      accepted = load-accepted bytes h;
+      typed = load-typed bytes h;
+      known = again bytes h .known;
+      carries = load-carried bytes h;
+      written = load-again bytes h;
+    }
 
-pub records-accepted : (bytes : List ℕ) (t : Trainer) → RecordOf bytes t → loadOf bytes ≡ taken t
-records-accepted bytes t r = ap loadOf (sym (r .written)) ∙ load-back t (r .accepted) (r .typed)
+pub records-accepted : (v : ℕ) (bytes : List ℕ) (t : Trainer) → RecordOf v bytes t → loadOf bytes ≡ taken t
+records-accepted v bytes t r =
+    ap loadOf (sym (r .written))
+    ∙ loading.load-carried v (r .known) t (whole-typed t (r .accepted) (r .typed)) (r .accepted) (r .carries)
 
 -- no two accepted trainers have one record
 pub record-once : (t u : Trainer) → acceptedOf t ≡ true → TrainerFits t → acceptedOf u ≡ true → TrainerFits u → recordOf t ≡ recordOf u → t ≡ u

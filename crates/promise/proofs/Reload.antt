@@ -32,10 +32,10 @@ use Rattle.record.proofs.Stands.{SettingsFits}
 use Rattle.record.proofs.Size.{record-count}
 use Rattle.record.proofs.RoundTrip.{TrainerFits}
 use Rattle.record.proofs.Loading.{accepted-grown, load-saved}
-use Rattle.promise.specs.PlainTree.{Tree, nodes, member, ruleAt}
+use Rattle.promise.specs.PlainTree.{Tree, nodes, ruleAt}
 use Rattle.promise.specs.PlainTrainer.{State, Phase, Kept, nothing, just, phase1, phase2, phase3, phase4, phase5, phase6, phase7, keptNumber, recordBytes}
 use Rattle.promise.specs.Values.{Every, FitAction, FitSettings}
-use Rattle.promise.proofs.Embed.{nodeOf, embedTree, ValidTree, leaf-below, leaf-from, node-leaf, node-parent, node-blank, embed-at, embed-length}
+use Rattle.promise.proofs.Embed.{nodeOf, embedTree, ValidTree, leaf-below, node-used, node-blank, embed-at, embed-length}
 use Rattle.promise.proofs.Candidates.{valid-parts, candidates-few, settings-facts}
 use Rattle.promise.proofs.States.{embedIn, embed, KeptHolds, ValidPhase, ValidState}
 use Rattle.promise.proofs.Accepted.{tree-of, accepted-embeds}
@@ -60,15 +60,13 @@ unfolding fits
 ends-fit = record { acks = tt; sends = tt; ratios = tt }
 
 node-fits : (t : Tree) → ValidTree t → Every FitRule (t .rules) → (i : ℕ) → ActionFits (nodeOf t i .action)
-node-fits t v w i = go (ltb i (nodes t)) refl (member i (t .splits)) refl
+node-fits t v w i = go (ltb i (nodes t)) refl
   where
-    go : (y : Bool) → ltb i (nodes t) ≡ y → (z : Bool) → member i (t .splits) ≡ z → ActionFits (nodeOf t i .action)
-    go true p true e = subst (λ (x : Node). ActionFits (x .action)) (sym (node-parent t i (ltb-true i (nodes t) p) e)) none-fits
-    go true p false e =
+    go : (y : Bool) → ltb i (nodes t) ≡ y → ActionFits (nodeOf t i .action)
+    go true p =
         let l = ltb-true i (nodes t) p in
-        subst (λ (x : Node). ActionFits (x .action)) (sym (node-leaf t i l e))
-        (valid-fits (ruleAt t i .action) (v .actions i (leaf-from t i l e)) (rule-fits t i w))
-    go false p z e = subst (λ (x : Node). ActionFits (x .action)) (sym (node-blank t i (ltb-false i (nodes t) p))) none-fits
+        subst (λ (x : Node). ActionFits (x .action)) (sym (node-used t i l)) (valid-fits (ruleAt t i .action) (v .actions i l) (rule-fits t i w))
+    go false p = subst (λ (x : Node). ActionFits (x .action)) (sym (node-blank t i (ltb-false i (nodes t) p))) none-fits
 
 tree-fits : (t : Tree) → ValidTree t → Every FitRule (t .rules) → TreeFits (embedTree t)
 tree-fits t v w =
@@ -148,11 +146,11 @@ module _ (st : State) (v : ValidState st) (f : FitState st) where
       fits-in (st .settings) (st .tree) (st .stage) (st .round) (v .settings) (v .tree)
       (settings-fit (st .settings) (v .settings) (f .settings)) (tree-fits (st .tree) (v .tree) (f .rules)) (st .phase) (v .phase) (f .phase)
 
-  pub record-length : length (recordBytes st) ≡ 172 + 149 * length (st .tree .splits)
+  pub record-length : length (recordBytes st) ≡ 172 + 170 * length (st .tree .splits)
   record-length =
       ap length (sym (record-embeds st v))
       ∙ record-count (embed st) (accepted-grown (embed st) (accepted-embeds st v)) (embed-typed .tree .full)
-      ∙ ap (λ (u : RuleTree). 172 + 149 * u .splits) (tree-of (st .settings) (embedTree (st .tree)) (st .stage) (st .round) (st .phase))
+      ∙ ap (λ (u : RuleTree). 172 + 170 * u .splits) (tree-of (st .settings) (embedTree (st .tree)) (st .stage) (st .round) (st .phase))
 
   -- a load of exactly the bytes written
   pub load-embeds : loadOf (recordBytes st) ≡ taken (embed st)

@@ -10,18 +10,18 @@ use borrow.Author.Tests.{eq-eqb, ne-eqb, ltb-true, ltb-false}
 use lib.Dec.{ltb}
 use lib.ListN.{length, getD, take, length-map}
 use lib.Seq.{ext-getD, getD-take, length-take-le}
-use lib.Ieee.{toBits}
+use Rattle.remy.specs.Action.{validOf}
 use Rattle.rule_tree.specs.declared.Node.{Node}
 use Rattle.rule_tree.specs.Lists.{occurrences}
-use Rattle.rule_tree.specs.Nodes.{nodeAt, childrenOf, parentWith, blankNode}
+use Rattle.rule_tree.specs.Nodes.{nodeAt, childrenOf}
 use Rattle.rule_tree.specs.Grown.{linkHolds, plainOf, slotHolds, grownOf}
 use Rattle.rule_tree.specs.Cubes.{ownerBelow, splitNodes}
 use Rattle.rule_tree.proofs.Lists.{length-tabulate, getD-tabulate}
-use Rattle.rule_tree.proofs.GrownTree.{Grown, child-at, facts-grown, link-none, link-from, slot-leaf, slot-unused, slot-parent}
-use Rattle.rule_tree.proofs.Changing.{usual-ends}
-use Rattle.promise.specs.PlainTree.{Tree, nodes, member, ruleAt}
+use Rattle.rule_tree.proofs.GrownTree.{Grown, child-at, facts-grown, link-none, link-from, slot-used, slot-unused}
+use Rattle.rule_tree.proofs.Changing.{blank-plain, usual-ends}
+use Rattle.promise.specs.PlainTree.{Tree, nodes, member}
 use Rattle.promise.proofs.Links.{link, link-owner, link-leaf, link-at}
-use Rattle.promise.proofs.Embed.{leafNode, nodeOf, embedTree, ValidTree, leaf-from, parent-below, node-leaf, node-parent, node-blank, embed-at, embed-length}
+use Rattle.promise.proofs.Embed.{nodeOf, embedTree, ValidTree, parent-below, node-used, node-leaf, node-blank, embed-at, embed-length}
 
 -- ---- a number that stands once in a list
 occurs-not : (x : ℕ) (cs : List ℕ) → ((j : ℕ) → j < length cs → getD cs j 0 ≢ x) → occurrences x cs ≡ 0
@@ -53,21 +53,13 @@ owner-is (suc n) cs f i l e h =
     (owner-is n cs f i q e (λ j b p. h j (omega arith) p)))
     (eq-or-lt-of-le (omega arith))
 
-parent-plain : (c : ℕ) → plainOf (parentWith c) ≡ true
-unfolding plainOf toBits
-parent-plain c = refl
-
-blank-plain : plainOf blankNode ≡ true
-unfolding plainOf toBits
-blank-plain = refl
-
 module _ (t : Tree) (v : ValidTree t) where
   -- each node's first child
   child-is : (i : ℕ) → i < 513 → nodeAt (embedTree t .nodes) i .children ≡ link 0 (t .splits) i
   child-is i l = ap (λ (x : Node). x .children) (embed-at t i l) ∙ go (member i (t .splits)) refl
     where
       go : (m : Bool) → member i (t .splits) ≡ m → nodeOf t i .children ≡ link 0 (t .splits) i
-      go true e = ap (λ (x : Node). x .children) (node-parent t i (parent-below t i v e) e)
+      go true e = ap (λ (x : Node). x .children) (node-used t i (parent-below t i v e))
       go false e =
           leaf (ltb i (nodes t)) refl ∙ sym (link-leaf 0 (t .splits) i e)
         where
@@ -113,20 +105,14 @@ module _ (t : Tree) (v : ValidTree t) where
       go false e = link-none (length (t .splits)) (link 0 (t .splits) i) i (link-leaf 0 (t .splits) i e)
 
   slots-hold : (i : ℕ) → i < 513 → slotHolds (nodeOf t i) (ltb i (nodes t)) ≡ true
-  slots-hold i l = go (ltb i (nodes t)) refl (member i (t .splits)) refl
+  slots-hold i l = go (ltb i (nodes t)) refl
     where
-      go : (z : Bool) → ltb i (nodes t) ≡ z → (m : Bool) → member i (t .splits) ≡ m → slotHolds (nodeOf t i) z ≡ true
-      go true p true e =
-          let o = link-owner 0 (t .splits) i e in
-          ap (λ (x : Node). slotHolds x true) (node-parent t i (ltb-true i (nodes t) p) e)
-          ∙ slot-parent (parentWith (link 0 (t .splits) i)) true (λ z. absurd (omega (arith, o .gives)))
-          ∙ parent-plain (link 0 (t .splits) i)
-      go true p false e =
-          ap (λ (x : Node). slotHolds x true) (node-leaf t i (ltb-true i (nodes t) p) e)
-          ∙ slot-leaf (leafNode (ruleAt t i)) true refl refl
-          ∙ v .actions i (leaf-from t i (ltb-true i (nodes t) p) e)
-      go false p m e =
-          ap (λ (x : Node). slotHolds x false) (node-blank t i (ltb-false i (nodes t) p)) ∙ slot-unused blankNode false refl ∙ blank-plain
+      go : (z : Bool) → ltb i (nodes t) ≡ z → slotHolds (nodeOf t i) z ≡ true
+      go true p =
+          let b = ltb-true i (nodes t) p in
+          slot-used (nodeOf t i) true refl ∙ ap (λ (x : Node). validOf (x .action)) (node-used t i b) ∙ v .actions i b
+      go false p =
+          slot-unused (nodeOf t i) false refl ∙ ap plainOf (node-blank t i (ltb-false i (nodes t) p)) ∙ blank-plain
 
   grown-facts : Grown (embedTree t)
   grown-facts =

@@ -1,6 +1,6 @@
 -- A valid plain tree stays valid, and what it says of its leaves is what the trainer's tree says. Assumes nothing.
 use mathlib.Core.Path.{_≡_, refl, sym, ap, subst, _∙_}
-use mathlib.Core.Bool.{Bool, true, false, not, _&&_}
+use mathlib.Core.Bool.{Bool, true, false, not, _&&_, cond}
 use mathlib.Core.Logic.{⊎-elim, _≢_}
 use mathlib.Core.List.{List, [], _∷_}
 use Prim.Native.Nat.{ℕ, _+_, _-_, _*_, _<_, _≤_}
@@ -15,10 +15,10 @@ use Rattle.remy.specs.Action.{validOf}
 use Rattle.rule_tree.specs.declared.Node.{Node}
 use Rattle.rule_tree.specs.Nodes.{nodeAt}
 use Rattle.rule_tree.specs.Calls.{leafIn}
-use Rattle.promise.specs.PlainTree.{Tree, Rule, nodes, member, isLeaf, ruleAt, unmarked, rootLeaf, split, setAction, mark, clearMarks}
-use Rattle.promise.proofs.Links.{no, same-or, link, link-owner, member-old, member-new}
-use Rattle.promise.proofs.Embed.{leafNode, embedTree, ValidTree, leaf-below, leaf-unsplit, leaf-from, node-leaf, node-parent, embed-at}
-use Rattle.promise.proofs.TreeSteps.{noRule, new-rule, cleared-rule}
+use Rattle.promise.specs.PlainTree.{Tree, Rule, nodes, member, isLeaf, ruleAt, unmarked, rootLeaf, split, setAction, mark, from, clearedRule, clearMarks}
+use Rattle.promise.proofs.Links.{same-or, link, link-owner}
+use Rattle.promise.proofs.Embed.{leafNode, embedTree, ValidTree, leaf-below, leaf-unsplit, node-used, node-leaf, embed-at}
+use Rattle.promise.proofs.TreeSteps.{noRule, new-rule, length-from, cleared-rule}
 
 -- ---- what the trainer's tree says of a node
 module _ (t : Tree) (v : ValidTree t) (i : ℕ) where
@@ -28,7 +28,7 @@ module _ (t : Tree) (v : ValidTree t) (i : ℕ) where
       go : (m : Bool) → member i (t .splits) ≡ m → eqb (nodeAt (embedTree t .nodes) i .children) 0 ≡ not m
       go true e =
           let o = link-owner 0 (t .splits) i e in
-          ap (λ (x : Node). eqb (x .children) 0) (embed-at t i (omega (arith, v .few)) ∙ node-parent t i b e)
+          ap (λ (x : Node). eqb (x .children) 0) (embed-at t i (omega (arith, v .few)) ∙ node-used t i b)
           ∙ ne-eqb (link 0 (t .splits) i) 0 (λ z. absurd (omega (arith, o .gives)))
       go false e = ap (λ (x : Node). eqb (x .children) 0) (embed-at t i (omega (arith, v .few)) ∙ node-leaf t i b e)
 
@@ -51,22 +51,21 @@ root-valid a h =
       grew = λ k l. absurd (omega arith);
       once = λ k l. absurd (omega arith);
       actions =
-          λ i l. let b = leaf-below (rootLeaf a) i l in
-          let e : i ≡ 0 = omega arith in
+          λ i l. let e : i ≡ 0 = omega arith in
           subst (λ (m : ℕ). validOf (ruleAt (rootLeaf a) m .action) ≡ true) (sym e) h;
     }
 
 -- ---- the same splits
 same-splits :
     (t u : Tree) → ValidTree t → u .splits ≡ t .splits → length (u .rules) ≡ length (t .rules)
-    → ((i : ℕ) → isLeaf t i ≡ true → validOf (ruleAt u i .action) ≡ true) → ValidTree u
+    → ((i : ℕ) → i < nodes t → validOf (ruleAt u i .action) ≡ true) → ValidTree u
 same-splits t u v e n h =
     record {
       few = rw e (v .few);
       sized = n ∙ v .sized ∙ ap (λ (ps : List ℕ). 1 + 8 * length ps) (sym e);
       grew = rw e (v .grew);
       once = rw e (v .once);
-      actions = λ i l. h i (ap (λ (ps : List ℕ). ltb i (1 + 8 * length ps) && not (member i ps)) (sym e) ∙ l);
+      actions = λ i l. h i (subst (λ (ps : List ℕ). i < 1 + 8 * length ps) e l);
     }
 
 module _ (t : Tree) (v : ValidTree t) (i : ℕ) (l : isLeaf t i ≡ true) where
@@ -83,12 +82,18 @@ module _ (t : Tree) (v : ValidTree t) (i : ℕ) (l : isLeaf t i ≡ true) where
   action-valid a h = stored-valid (record { action = a; marked = ruleAt t i .marked }) h
 
   pub mark-valid : ValidTree (mark t i)
-  mark-valid = stored-valid (record { action = ruleAt t i .action; marked = true }) (v .actions i l)
+  mark-valid = stored-valid (record { action = ruleAt t i .action; marked = true }) (v .actions i (leaf-below t i l))
 
 pub clear-valid : (t : Tree) → ValidTree t → ValidTree (clearMarks t)
 clear-valid t v =
-    same-splits t (clearMarks t) v refl (length-map (t .rules) (λ (r : Rule). unmarked (r .action)))
-    (λ i l. ap (λ (r : Rule). validOf (r .action)) (cleared-rule t i) ∙ v .actions i l)
+    same-splits t (clearMarks t) v refl (length-map (from 0 (nodes t)) (clearedRule t) ∙ length-from 0 (nodes t) ∙ sym (v .sized))
+    (λ i l. ap (λ (r : Rule). validOf (r .action)) (cleared-rule t i l) ∙ go i (isLeaf t i) ∙ v .actions i l)
+  where
+    go :
+        (i : ℕ) (z : Bool)
+        → validOf (cond z (unmarked (ruleAt t i .action)) (ruleAt t i) .action) ≡ validOf (ruleAt t i .action)
+    go i true = refl
+    go i false = refl
 
 -- ---- one split more
 module _ (t : Tree) (v : ValidTree t) (i : ℕ) (l : isLeaf t i ≡ true) (r : length (t .splits) < 64) where
@@ -115,23 +120,19 @@ module _ (t : Tree) (v : ValidTree t) (i : ℕ) (l : isLeaf t i ≡ true) (r : l
       ∙ v .once k q)
       (eq-or-lt-of-le (omega (arith, more)))
 
-  split-action : (j : ℕ) → isLeaf (split t i) j ≡ true → validOf (ruleAt (split t i) j .action) ≡ true
+  split-action : (j : ℕ) → j < nodes (split t i) → validOf (ruleAt (split t i) j .action) ≡ true
   split-action j b = go (ltb j (nodes t)) refl
     where
-      n : j ≢ i
-      n e = no (member i (split t i .splits)) (member-new (t .splits) i) (subst (λ (m : ℕ). member m (split t i .splits) ≡ false) e (leaf-unsplit (split t i) j b))
-
       go : (z : Bool) → ltb j (nodes t) ≡ z → validOf (ruleAt (split t i) j .action) ≡ true
       go true e =
           let c = ltb-true j (nodes t) e in
           ap (λ (x : Rule). validOf (x .action)) (List·getD-append (t .rules) (replicate 8 (unmarked (ruleAt t i .action))) noRule j (omega (arith, v .sized)))
-          ∙ v .actions j (leaf-from t j c (sym (member-old (t .splits) i j n) ∙ leaf-unsplit (split t i) j b))
+          ∙ v .actions j c
       go false e =
           let a = ltb-false j (nodes t) e in
-          let c = leaf-below (split t i) j b in
           let p : 8 * length (t .splits) + 1 + (j - (8 * length (t .splits) + 1)) ≡ j = omega arith in
           subst (λ (m : ℕ). validOf (ruleAt (split t i) m .action) ≡ true) p
-          (ap (λ (x : Rule). validOf (x .action)) (new-rule t i v (j - (8 * length (t .splits) + 1)) (omega (arith, more))) ∙ v .actions i l)
+          (ap (λ (x : Rule). validOf (x .action)) (new-rule t i v (j - (8 * length (t .splits) + 1)) (omega (arith, more))) ∙ v .actions i (leaf-below t i l))
 
   pub split-valid : ValidTree (split t i)
   split-valid =

@@ -2,41 +2,42 @@
 use mathlib.Core.Path.{_≡_, refl, sym, ap, subst, _∙_}
 use mathlib.Core.Bool.{Bool, true, false, cond}
 use mathlib.Core.Logic.{⊎-elim, _⊎_, _≢_}
-use mathlib.Core.List.{List, [], _∷_, _++_}
-use Prim.Native.Nat.{ℕ, _+_, _-_, _*_, _<_, _≤_}
+use mathlib.Core.List.{List, [], _∷_, _++_, map}
+use Prim.Native.Nat.{ℕ, zero, suc, _+_, _-_, _*_, _<_, _≤_}
 use native.Mathlib.Omega.{arith}
 use borrow.Author.Tests.{lt-ltb, le-ltb, ne-eqb, ltb-true, ltb-false}
 use lib.Dec.{ltb}
-use lib.ListN.{length, getD, set, replicate, length-append, length-set, getD-replicate, List·getD-append, List·getD-map}
+use lib.ListN.{length, getD, set, replicate, length-append, length-set, getD-replicate, List·getD-append}
 use lib.Seq.{getD-set-same, getD-set-other, getD-append-add}
 use lib.IntN.{pos}
 use Rattle.remy.specs.declared.action.Action.{Action}
 use Rattle.remy.specs.Action.{actionOf}
-use Rattle.remy.specs.Cube.{usualEnds, zero}
+use Rattle.remy.specs.Cube.{usualEnds}
+use Rattle.remy.specs.Cube as cube
 use Rattle.rule_tree.specs.declared.Node.{Node}
 use Rattle.rule_tree.specs.declared.RuleTree.{RuleTree}
-use Rattle.rule_tree.specs.Nodes.{noNode, nodeAt, leafWith, parentWith, blankNode, nodeCount}
+use Rattle.rule_tree.specs.Nodes.{noNode, nodeAt, leafWith, linkedTo, blankNode, nodeCount}
 use Rattle.rule_tree.specs.Change.{freshTree, withAction, withMark, withoutMarks, unmarkedNode, splitAt}
 use Rattle.rule_tree.proofs.Changing.{split-length, split-splits, split-ends, split-parent, split-child, split-other, clear-length, clear-at, fresh-length}
-use Rattle.promise.specs.PlainTree.{Tree, Rule, nodes, member, isLeaf, ruleAt, unmarked, rootLeaf, split, setAction, mark, clearMarks}
-use Rattle.promise.proofs.Links.{same-or, link, link-owner, link-old, link-new, member-old, member-new}
-use Rattle.promise.proofs.Embed.{leafNode, nodeOf, embedTree, ValidTree, leaf-below, leaf-unsplit, parent-below, node-leaf, node-parent, node-blank, embed-at, embed-length, nodes-same, tree-same}
+use Rattle.promise.specs.PlainTree.{Tree, Rule, nodes, member, isLeaf, ruleAt, unmarked, rootLeaf, split, setAction, mark, from, clearedRule, clearMarks}
+use Rattle.promise.proofs.Links.{same-or, link, link-owner, link-old, link-new, member-old}
+use Rattle.promise.proofs.Embed.{nodeWith, leafNode, nodeOf, embedTree, ValidTree, leaf-below, leaf-unsplit, parent-below, node-used, node-leaf, node-blank, embed-at, embed-length, nodes-same, tree-same}
 
 abbrev pub noRule : Rule
-noRule = unmarked (actionOf zero (pos 0) zero)
+noRule = unmarked (actionOf cube.zero (pos 0) cube.zero)
 
 -- a node that the same splits and the same rule make
 node-same :
-    (t u : Tree) (i : ℕ) → ltb i (nodes t) ≡ ltb i (nodes u) → member i (t .splits) ≡ member i (u .splits)
-    → link 0 (t .splits) i ≡ link 0 (u .splits) i → (i < nodes u → ruleAt t i ≡ ruleAt u i) → nodeOf t i ≡ nodeOf u i
+    (t u : Tree) (i : ℕ) → ltb i (nodes t) ≡ ltb i (nodes u) → link 0 (t .splits) i ≡ link 0 (u .splits) i
+    → (i < nodes u → ruleAt t i ≡ ruleAt u i) → nodeOf t i ≡ nodeOf u i
 unfolding nodeOf
-node-same t u i a b c d = rw (a, b, c) (go (ltb i (nodes u)) refl)
+node-same t u i a b c = rw (a, b) (go (ltb i (nodes u)) refl)
   where
     go :
         (z : Bool) → ltb i (nodes u) ≡ z
-        → cond z (cond (member i (u .splits)) (parentWith (link 0 (u .splits) i)) (leafNode (ruleAt t i))) blankNode
-        ≡ cond z (cond (member i (u .splits)) (parentWith (link 0 (u .splits) i)) (leafNode (ruleAt u i))) blankNode
-    go true e = rw (d (ltb-true i (nodes u) e))
+        → cond z (nodeWith (ruleAt t i) (link 0 (u .splits) i)) blankNode
+        ≡ cond z (nodeWith (ruleAt u i) (link 0 (u .splits) i)) blankNode
+    go true e = rw (c (ltb-true i (nodes u) e))
     go false e = refl
 
 -- a node that no split has made is no parent
@@ -67,11 +68,16 @@ module _ (t : Tree) (i : ℕ) (v : ValidTree t) (l : isLeaf t i ≡ true) (r : l
       let b = leaf-below t i l in
       embed-at t i (omega arith) ∙ node-leaf t i b (leaf-unsplit t i l)
 
+  kept-rule : (j : ℕ) → j < nodes t → ruleAt (split t i) j ≡ ruleAt t j
+  kept-rule j b = List·getD-append (t .rules) (replicate 8 (unmarked (ruleAt t i .action))) noRule j (omega (arith, v .sized))
+
   at-split : nodeOf (split t i) i ≡ nodeAt (splitAt old i .nodes) i
   at-split =
       let b = leaf-below t i l in
-      node-parent (split t i) i (omega (arith, grown-nodes)) (member-new (t .splits) i)
-      ∙ ap parentWith (link-new 0 (t .splits) i (leaf-unsplit t i l) ∙ omega arith)
+      node-used (split t i) i (omega (arith, grown-nodes))
+      ∙ ap (nodeWith (ruleAt (split t i) i)) (link-new 0 (t .splits) i (leaf-unsplit t i l) ∙ omega arith)
+      ∙ ap (λ (r : Rule). nodeWith r (8 * length (t .splits) + 1)) (kept-rule i b)
+      ∙ ap (λ (x : Node). linkedTo x (8 * length (t .splits) + 1)) (sym leaf-now)
       ∙ sym (split-parent old i (omega (arith, embed-length t)) b)
 
   at-new : (k : ℕ) → k < 8 → nodeOf (split t i) (8 * length (t .splits) + 1 + k) ≡ nodeAt (splitAt old i .nodes) (8 * length (t .splits) + 1 + k)
@@ -90,9 +96,8 @@ module _ (t : Tree) (i : ℕ) (v : ValidTree t) (l : isLeaf t i ≡ true) (r : l
       node-same (split t i) t j
       (⊎-elim (λ (p : j < nodeCount (length (t .splits))). lt-ltb j (nodes (split t i)) (omega (arith, grown-nodes)) ∙ sym (lt-ltb j (nodes t) p))
       (λ (p : nodeCount (length (t .splits) + 1) ≤ j). le-ltb j (nodes (split t i)) (omega (arith, grown-nodes)) ∙ sym (le-ltb j (nodes t) (omega arith))) o)
-      (member-old (t .splits) i j n)
       (link-old 0 (t .splits) i j n)
-      (λ p. List·getD-append (t .rules) (replicate 8 (unmarked (ruleAt t i .action))) noRule j (omega (arith, v .sized)))
+      (kept-rule j)
       ∙ sym (embed-at t j b)
       ∙ sym (split-other old i j n o)
 
@@ -130,7 +135,7 @@ module _ (t u : Tree) (i : ℕ) (v : ValidTree t) (l : isLeaf t i ≡ true) (e :
       (node-leaf u i (subst (λ (ps : List ℕ). i < 1 + 8 * length ps) (sym e) (leaf-below t i l)) (ap (member i) e ∙ leaf-unsplit t i l)
       ∙ p
       ∙ sym (getD-set-same (embedTree t .nodes) i y noNode (omega (arith, leaf-below t i l, v .few, embed-length t)))))
-      (λ (n : j ≢ i). node-same u t j (ap (λ (ps : List ℕ). ltb j (1 + 8 * length ps)) e) (ap (member j) e) (ap (λ (ps : List ℕ). link 0 ps j) e) (λ c. q j n)
+      (λ (n : j ≢ i). node-same u t j (ap (λ (ps : List ℕ). ltb j (1 + 8 * length ps)) e) (ap (λ (ps : List ℕ). link 0 ps j) e) (λ c. q j n)
       ∙ sym (embed-at t j b)
       ∙ sym (getD-set-other (embedTree t .nodes) i j y noNode n))
       (same-or j i)
@@ -171,16 +176,35 @@ clear-leaf : (r : Rule) → unmarkedNode (leafNode r) ≡ leafNode (unmarked (r 
 unfolding unmarkedNode
 clear-leaf r = refl
 
-clear-parent : (c : ℕ) → c ≢ 0 → unmarkedNode (parentWith c) ≡ parentWith c
+clear-parent : (r : Rule) (c : ℕ) → c ≢ 0 → unmarkedNode (nodeWith r c) ≡ nodeWith r c
 unfolding unmarkedNode
-clear-parent c n = rw (ne-eqb c 0 n)
+clear-parent r c n = rw (ne-eqb c 0 n)
 
 clear-blank : unmarkedNode blankNode ≡ blankNode
 unfolding unmarkedNode
 clear-blank = refl
 
-pub cleared-rule : (t : Tree) (j : ℕ) → ruleAt (clearMarks t) j ≡ unmarked (ruleAt t j .action)
-cleared-rule t j = List·getD-map (λ (r : Rule). unmarked (r .action)) (t .rules) j noRule
+-- ---- the numbers of the nodes
+pub length-from : (a n : ℕ) → length (from a n) ≡ n
+unfolding from
+length-from a zero = refl
+length-from a (suc n) = ap suc (length-from (suc a) n)
+
+mapped-from : (f : ℕ → Rule) (a n j : ℕ) → j < n → getD (map f (from a n)) j noRule ≡ f (a + j)
+unfolding from
+mapped-from f a zero j l = absurd (omega arith)
+mapped-from f a (suc n) zero l = ap f (omega arith)
+mapped-from f a (suc n) (suc j) l = mapped-from f (suc a) n j (omega arith) ∙ ap f (omega arith)
+
+module _ (t : Tree) (j : ℕ) (b : j < nodes t) where
+  pub cleared-rule : ruleAt (clearMarks t) j ≡ clearedRule t j
+  cleared-rule = mapped-from (clearedRule t) 0 (nodes t) j b ∙ ap (clearedRule t) (omega arith)
+
+  cleared-leaf : member j (t .splits) ≡ false → ruleAt (clearMarks t) j ≡ unmarked (ruleAt t j .action)
+  cleared-leaf m = cleared-rule ∙ rw (lt-ltb j (nodes t) b, m)
+
+  cleared-parent : member j (t .splits) ≡ true → ruleAt (clearMarks t) j ≡ ruleAt t j
+  cleared-parent m = cleared-rule ∙ rw (lt-ltb j (nodes t) b, m)
 
 cleared-at : (t : Tree) (j : ℕ) → nodeOf (clearMarks t) j ≡ unmarkedNode (nodeOf t j)
 cleared-at t j = go (ltb j (nodes t)) refl (member j (t .splits)) refl
@@ -189,13 +213,14 @@ cleared-at t j = go (ltb j (nodes t)) refl (member j (t .splits)) refl
     go true p true q =
         let b = ltb-true j (nodes t) p in
         let o = link-owner 0 (t .splits) j q in
-        node-parent (clearMarks t) j b q
-        ∙ sym (clear-parent (link 0 (t .splits) j) (λ e. absurd (omega (arith, o .gives))))
-        ∙ ap unmarkedNode (sym (node-parent t j b q))
+        node-used (clearMarks t) j b
+        ∙ ap (λ (r : Rule). nodeWith r (link 0 (t .splits) j)) (cleared-parent t j b q)
+        ∙ sym (clear-parent (ruleAt t j) (link 0 (t .splits) j) (λ e. absurd (omega (arith, o .gives))))
+        ∙ ap unmarkedNode (sym (node-used t j b))
     go true p false q =
         let b = ltb-true j (nodes t) p in
         node-leaf (clearMarks t) j b q
-        ∙ ap leafNode (cleared-rule t j)
+        ∙ ap leafNode (cleared-leaf t j b q)
         ∙ sym (clear-leaf (ruleAt t j))
         ∙ ap unmarkedNode (sym (node-leaf t j b q))
     go false p y q =

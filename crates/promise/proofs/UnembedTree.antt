@@ -14,7 +14,7 @@ use Rattle.remy.specs.Action.{validOf}
 use Rattle.rule_tree.specs.declared.Node.{Node}
 use Rattle.rule_tree.specs.declared.RuleTree.{RuleTree}
 use Rattle.rule_tree.specs.Lists.{tabulate}
-use Rattle.rule_tree.specs.Nodes.{nodeAt, noAction, parentWith, childrenOf, nodeCount}
+use Rattle.rule_tree.specs.Nodes.{nodeAt, noAction, blankNode, childrenOf, nodeCount}
 use Rattle.rule_tree.specs.Grown.{grownOf, plainOf}
 use Rattle.rule_tree.specs.Cubes.{ownerBelow, splitNodes}
 use Rattle.rule_tree.specs.Calls.{leafIn}
@@ -23,10 +23,10 @@ use Rattle.rule_tree.proofs.GrownTree.{child-at}
 use Rattle.rule_tree.proofs.GrownTree as tree
 use Rattle.rule_tree.proofs.Owners.{same-or-not}
 use Rattle.rule_tree.proofs.Plain.{ActionFits, PointFits, plain-action, plain-unmarked}
-use Rattle.rule_tree.proofs.Links.{grown-splits, grown-link, grown-split, grown-owner, grown-leaf-valid, grown-parent-plain, grown-unused-leaf, grown-unused-plain, grown-ends}
+use Rattle.rule_tree.proofs.Links.{grown-splits, grown-link, grown-split, grown-owner, grown-valid, grown-unused-leaf, grown-unused-plain, grown-ends}
 use Rattle.promise.specs.PlainTree.{Tree, Rule, nodes, member, isLeaf, ruleAt}
-use Rattle.promise.proofs.Links.{or-right, link, link-owner}
-use Rattle.promise.proofs.Embed.{nodeOf, embedTree, ValidTree, leaf-below, leaf-unsplit, leaf-from, node-leaf, node-parent, node-blank, embed-at, embed-length, nodes-same, tree-same}
+use Rattle.promise.proofs.Links.{or-right, link, link-leaf, link-owner}
+use Rattle.promise.proofs.Embed.{nodeWith, nodeOf, embedTree, ValidTree, leaf-from, node-used, node-blank, embed-at, embed-length, nodes-same, tree-same}
 use Rattle.promise.specs.Values.{Every}
 use Rattle.promise.proofs.Fitting.{FitRule}
 use Rattle.promise.proofs.TreeSteps.{noRule}
@@ -54,9 +54,9 @@ node-rebuilt :
     → _≡_ {A = Node} x (record { action = a; children = c; optimized = m })
 node-rebuilt x a c m p q r = λ j. record { action = p j; children = q j; optimized = r j }
 
--- a node that holds nothing more than its link
-plain-node : (x : Node) (c : ℕ) → plainOf x ≡ true → ActionFits (x .action) → x .children ≡ c → x ≡ parentWith c
-plain-node x c h f e = node-rebuilt x noAction c false (plain-action x h f) e (plain-unmarked x h)
+-- a slot that is not in use
+unused-blank : (x : Node) → plainOf x ≡ true → ActionFits (x .action) → x .children ≡ 0 → x ≡ blankNode
+unused-blank x h f e = node-rebuilt x noAction 0 false (plain-action x h f) e (plain-unmarked x h)
 
 module _ (t : RuleTree) (g : grownOf t ≡ true) where
   splits-count : length (plainTree t .splits) ≡ t .splits
@@ -134,6 +134,13 @@ module _ (t : RuleTree) (g : grownOf t ≡ true) (full : length (t .nodes) ≡ 5
       (λ (n : nodeAt (t .nodes) i .children ≡ 0 → ⊥). let z : _≡_ {A = ℕ} 0 1 = cc (parent-member i b n) in absurd (omega arith))
       (same-or-not (nodeAt (t .nodes) i .children) 0)
 
+  link-children : (i : ℕ) → i < 513 → link 0 (plainTree t .splits) i ≡ nodeAt (t .nodes) i .children
+  link-children i b = go (member i (plainTree t .splits)) refl
+    where
+      go : (z : Bool) → member i (plainTree t .splits) ≡ z → link 0 (plainTree t .splits) i ≡ nodeAt (t .nodes) i .children
+      go true e = member-child i e
+      go false e = link-leaf 0 (plainTree t .splits) i e ∙ sym (unsplit-childless i b e)
+
   childless-unsplit : (i : ℕ) → nodeAt (t .nodes) i .children ≡ 0 → member i (plainTree t .splits) ≡ false
   childless-unsplit i z = go (member i (plainTree t .splits)) refl
     where
@@ -145,11 +152,10 @@ module _ (t : RuleTree) (g : grownOf t ≡ true) (full : length (t .nodes) ≡ 5
   leaf-back i h =
       leaf-from (plainTree t) i (omega (arith, tree.leaf-below t i h, nodes-count t g)) (childless-unsplit i (tree.leaf-childless t i h))
 
-  leaf-action : (i : ℕ) → isLeaf (plainTree t) i ≡ true → validOf (ruleAt (plainTree t) i .action) ≡ true
-  leaf-action i h =
-      let l : i < nodeCount (t .splits) = omega (arith, leaf-below (plainTree t) i h, nodes-count t g) in
-      ap (λ (r : Rule). validOf (r .action)) (rule-back t g i l)
-      ∙ grown-leaf-valid t g i l (unsplit-childless i (omega (arith, grown-splits t g)) (leaf-unsplit (plainTree t) i h))
+  node-action : (i : ℕ) → i < nodes (plainTree t) → validOf (ruleAt (plainTree t) i .action) ≡ true
+  node-action i h =
+      let l : i < nodeCount (t .splits) = omega (arith, nodes-count t g) in
+      ap (λ (r : Rule). validOf (r .action)) (rule-back t g i l) ∙ grown-valid t g i l
 
   pub tree-valid : ValidTree (plainTree t)
   tree-valid =
@@ -158,33 +164,26 @@ module _ (t : RuleTree) (g : grownOf t ≡ true) (full : length (t .nodes) ≡ 5
         sized = length-tabulate (nodeCount (t .splits)) (λ i. ruleOf (nodeAt (t .nodes) i)) ∙ sym (nodes-count t g);
         grew = λ k l. split-low k (omega (arith, splits-count t g));
         once = λ k l. split-once k (omega (arith, splits-count t g));
-        actions = leaf-action;
+        actions = node-action;
       }
 
   -- ---- node by node
   node-back : (i : ℕ) → i < 513 → ActionFits (nodeAt (t .nodes) i .action) → nodeOf (plainTree t) i ≡ nodeAt (t .nodes) i
-  node-back i b f = go (ltb i (nodes (plainTree t))) refl (member i (plainTree t .splits)) refl
+  node-back i b f = go (ltb i (nodes (plainTree t))) refl
     where
       x : Node
       x = nodeAt (t .nodes) i
 
-      go :
-          (y : Bool) → ltb i (nodes (plainTree t)) ≡ y → (z : Bool) → member i (plainTree t .splits) ≡ z
-          → nodeOf (plainTree t) i ≡ x
-      go true p true e =
-          node-parent (plainTree t) i (ltb-true i (nodes (plainTree t)) p) e
-          ∙ sym (plain-node x (link 0 (plainTree t .splits) i) (grown-parent-plain t g i b (member-parent i e)) f (sym (member-child i e)))
-      go true p false e =
+      go : (y : Bool) → ltb i (nodes (plainTree t)) ≡ y → nodeOf (plainTree t) i ≡ x
+      go true p =
           let l = ltb-true i (nodes (plainTree t)) p in
-          node-leaf (plainTree t) i l e
-          ∙ sym (node-rebuilt x _ 0 _ (ap (λ (r : Rule). r .action) q) (unsplit-childless i b e) (ap (λ (r : Rule). r .marked) q))
-        where
-          q : ruleOf x ≡ ruleAt (plainTree t) i
-          q = sym (rule-back t g i (omega (arith, ltb-true i (nodes (plainTree t)) p, nodes-count t g)))
-      go false p z e =
+          node-used (plainTree t) i l
+          ∙ ap (λ (r : Rule). nodeWith r (link 0 (plainTree t .splits) i)) (rule-back t g i (omega (arith, nodes-count t g)))
+          ∙ ap (nodeWith (ruleOf x)) (link-children i b)
+      go false p =
           let l = ltb-false i (nodes (plainTree t)) p in
           let u : nodeCount (t .splits) ≤ i = omega (arith, nodes-count t g) in
-          node-blank (plainTree t) i l ∙ sym (plain-node x 0 (grown-unused-plain t g i u b) f (grown-unused-leaf t g i u b))
+          node-blank (plainTree t) i l ∙ sym (unused-blank x (grown-unused-plain t g i u b) f (grown-unused-leaf t g i u b))
 
   pub tree-back : PointFits (t .ends) → ((i : ℕ) → i < 513 → ActionFits (nodeAt (t .nodes) i .action)) → embedTree (plainTree t) ≡ t
   tree-back e f =

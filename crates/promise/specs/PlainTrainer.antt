@@ -150,12 +150,14 @@ scored st x phase6 = refuse 21 st
 scored st x phase7 = refuse 21 st
 
 -- ---- the record, "its state written as above"
-unfoldable pub leavesBytes : Tree → List ℕ → List ℕ
-leavesBytes t [] = []
-leavesBytes t (i ∷ is) = actionBytes (ruleAt t i .action) ++ (flagByte (ruleAt t i .marked) ∷ leavesBytes t is)
+-- action and mark: "record version 2 writes them for every node by rising number"
+unfoldable pub rulesBytes : List Rule → List ℕ
+rulesBytes [] = []
+rulesBytes (r ∷ rs) = actionBytes (r .action) ++ (flagByte (r .marked) ∷ rulesBytes rs)
 
+-- "u16 split count; each split's node u16", then the nodes
 abbrev pub treeBytes : Tree → List ℕ
-treeBytes t = bytesOf 2 (length (t .splits)) ++ (numbersBytes (t .splits) ++ leavesBytes t (leaves t))
+treeBytes t = bytesOf 2 (length (t .splits)) ++ (numbersBytes (t .splits) ++ rulesBytes (t .rules))
 
 unfoldable pub keptNumber : Kept → ℕ
 keptNumber nothing = 65535
@@ -182,8 +184,9 @@ phaseBytes st (phase5 i best k kept) = stateBytes st 5 i best k kept
 phaseBytes st phase6 = stateBytes st 6 0 cube.zero 0 nothing
 phaseBytes st phase7 = stateBytes st 7 0 cube.zero 0 nothing
 
+-- the version byte, 2, and what follows it
 abbrev pub body : State → List ℕ
-body st = 1 ∷ (settingsBytes (st .settings) ++ (treeBytes (st .tree) ++ phaseBytes st (st .phase)))
+body st = 2 ∷ (settingsBytes (st .settings) ++ (treeBytes (st .tree) ++ phaseBytes st (st .phase)))
 
 -- "u32 length of all that follows"
 abbrev pub recordBytes : State → List ℕ

@@ -41,7 +41,7 @@ isLeaf t i = ltb i (nodes t) && not (member i (t .splits))
 abbrev pub ruleAt : Tree → ℕ → Rule
 ruleAt t i = getD (t .rules) i (unmarked (actionOf cube.zero (pos 0) cube.zero))
 
--- "makes one leaf a parent and adds nodes .. in child order, each with the parent's action, unmarked"
+-- "makes one leaf a parent and adds nodes .. in child order, each with the parent's action, unmarked"; "parents keep action and mark"
 abbrev pub split : Tree → ℕ → Tree
 split t i = record { splits = t .splits ++ (i ∷ []); rules = t .rules ++ replicate 8 (unmarked (ruleAt t i .action)) }
 
@@ -51,13 +51,17 @@ setAction t i a = record { splits = t .splits; rules = set (t .rules) i (record 
 abbrev pub mark : Tree → ℕ → Tree
 mark t i = record { splits = t .splits; rules = set (t .rules) i (record { action = ruleAt t i .action; marked = true }) }
 
-abbrev pub clearMarks : Tree → Tree
-clearMarks t = record { splits = t .splits; rules = map (λ (r : Rule). unmarked (r .action)) (t .rules) }
-
 -- i, i + 1, .. of n numbers
 unfoldable pub from : ℕ → ℕ → List ℕ
 from i zero = []
 from i (suc n) = i ∷ from (suc i) n
+
+-- "clearing all marks is of leaves only": a parent's rule stays as it is
+abbrev pub clearedRule : Tree → ℕ → Rule
+clearedRule t i = cond (isLeaf t i) (unmarked (ruleAt t i .action)) (ruleAt t i)
+
+abbrev pub clearMarks : Tree → Tree
+clearMarks t = record { splits = t .splits; rules = map (clearedRule t) (from 0 (nodes t)) }
 
 unfoldable pub those : (ℕ → Bool) → List ℕ → List ℕ
 those keep [] = []

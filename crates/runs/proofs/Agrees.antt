@@ -76,7 +76,7 @@ lookup-agrees st v p =
     ∙ ap lookedWords (grown-lookup (embedTree (st .tree)) p (grown-embeds (st .tree) (v .tree)) ∙ found-embeds (st .tree) (v .tree) p)
     ∙ found-same (st .tree) (leafAt (st .tree) p)
 
--- ---- the record at the end: 172 + 149 s bytes for at most 64 splits, which the buffer holds
+-- ---- the record at the end: 172 + 170 s bytes for at most 64 splits, which the buffer holds
 abbrev buffer : List ℕ
 buffer = replicate 16388 0
 
