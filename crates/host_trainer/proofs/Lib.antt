@@ -3,6 +3,5 @@ pub mod QuestionWays
 pub mod LookupWays
 pub mod SpotWays
 pub mod TreesFit
-pub mod BytesFit
 pub mod StepsFit
 pub mod Runs

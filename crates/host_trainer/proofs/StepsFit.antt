@@ -32,7 +32,8 @@ use Rattle.trainer.proofs.CandidateLaws.{candidates-few}
 use Rattle.trainer.proofs.AcceptedFacts.{phase-cases, accepted-settings, accepted-phase, accepted-few, accepted-bounds, leaf-named, k-listed, kept-listed}
 use Rattle.record.proofs.Stands.{SettingsFits}
 use Rattle.record.proofs.RoundTrip.{TrainerFits}
-use Rattle.host_trainer.proofs.TreesFit.{zero-fits, candidate-fits, split-fits, act-fits, mark-fits, clear-fits, fresh-fits}
+use Rattle.record.proofs.BytesFit.{zero-fits}
+use Rattle.host_trainer.proofs.TreesFit.{candidate-fits, split-fits, act-fits, mark-fits, clear-fits, fresh-fits}
 
 -- ---- trainers: what an answer can change
 record Fit (t : Trainer) : Type 0 where

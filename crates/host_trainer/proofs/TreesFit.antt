@@ -18,9 +18,9 @@ use Rattle.remy.specs.Cube as cube
 use Rattle.rule_tree.specs.declared.Node.{Node}
 use Rattle.rule_tree.specs.declared.RuleTree.{RuleTree}
 use Rattle.rule_tree.specs.Lists.{fill}
-use Rattle.rule_tree.specs.Nodes.{noNode, nodeAt, leafWith, noAction, parentWith, blankNode}
+use Rattle.rule_tree.specs.Nodes.{noNode, nodeAt, leafWith, linkedTo, blankNode}
 use Rattle.rule_tree.specs.Change.{freshTree, withAction, withMark, unmarkedNode, withoutMarks, splitAt}
-use Rattle.rule_tree.proofs.Plain.{ActionFits, PointFits}
+use Rattle.rule_tree.proofs.Plain.{ActionFits}
 use Rattle.rule_tree.proofs.Owners.{below-or-not}
 use Rattle.rule_tree.proofs.Changing.{action-length, mark-length, clear-length, fresh-length, split-length}
 use Rattle.rule_tree_laws.proofs.Sound.{TreeFits}
@@ -29,15 +29,9 @@ use Rattle.trainer.specs.Settings.{multiplierAxis, incrementAxis, delayAxis, se
 use Rattle.trainer.specs.Candidates.{flatMap, filter, floatChanges, wholeChanges, changed, allChanges, insideOf, candidatesOf, noCandidate}
 use Rattle.trainer.proofs.Holds.{increment-small}
 use Rattle.trainer.proofs.CandidateLaws.{candidate-valid}
+use Rattle.record.proofs.BytesFit.{plain-fits, ends-fit}
 
 -- ---- actions
-pub zero-fits : T (fits binary64 cube.zero)
-unfolding fits
-zero-fits = tt
-
-pub plain-fits : ActionFits noAction
-plain-fits = record { multiplier = zero-fits; increment = record { sfits = omega arith }; delay = zero-fits }
-
 missing-fits : ActionFits noCandidate
 missing-fits = record { multiplier = nan-fits binary64; increment = record { sfits = omega arith }; delay = nan-fits binary64 }
 
@@ -156,8 +150,8 @@ module _ (t : RuleTree) (f : TreeFits t) where
         full = split-length t i ∙ f .full;
         ends = f .ends;
         actions = λ j l.
-            fill-fits (set (t .nodes) i (parentWith first)) first 8 (leafWith (nodeAt (t .nodes) i .action))
-            (set-fits (t .nodes) i (parentWith first) node-fits plain-fits) (node-fits i) j;
+            fill-fits (set (t .nodes) i (linkedTo (nodeAt (t .nodes) i) first)) first 8 (leafWith (nodeAt (t .nodes) i .action))
+            (set-fits (t .nodes) i (linkedTo (nodeAt (t .nodes) i) first) node-fits (node-fits i)) (node-fits i) j;
       }
 
   pub act-fits : (i : ℕ) (a : Action) → ActionFits a → TreeFits (withAction t i a)
@@ -169,10 +163,6 @@ module _ (t : RuleTree) (f : TreeFits t) where
 
   pub clear-fits : TreeFits (withoutMarks t)
   clear-fits = record { full = clear-length t ∙ f .full; ends = f .ends; actions = λ j l. cleared-fits (t .nodes) node-fits j }
-
-pub ends-fit : PointFits cube.usualEnds
-unfolding fits
-ends-fit = record { acks = tt; sends = tt; ratios = tt }
 
 pub fresh-fits : (a : Action) → ActionFits a → TreeFits (freshTree cube.usualEnds a)
 fresh-fits a g =

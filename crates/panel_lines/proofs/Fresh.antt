@@ -5,8 +5,7 @@ use mathlib.Core.List.{List, [], _∷_, _++_}
 use Prim.Native.Nat.{ℕ, zero, suc, _+_, _^_, _<_, _≤_}
 use native.Mathlib.Omega.{arith}
 use borrow.Author.Tests.{le-leb}
-use lib.Dec.{T, ltb}
-use lib.Ieee.{binary64, fits}
+use lib.Dec.{ltb}
 use lib.ListN.{length, drop, replicate, getD-replicate}
 use lib.Seq.{getD-set-other}
 use Rattle.remy.specs.declared.action.Action.{Action}
@@ -14,11 +13,11 @@ use Rattle.remy.specs.Cube as cube
 use Rattle.rule_tree.specs.declared.Node.{Node}
 use Rattle.rule_tree.specs.declared.RuleTree.{RuleTree}
 use Rattle.rule_tree.specs.Lists.{allBelow, tabulate, total}
-use Rattle.rule_tree.specs.Nodes.{noNode, noAction, nodeAt, blankNode, leafWith}
+use Rattle.rule_tree.specs.Nodes.{noNode, nodeAt, blankNode, leafWith}
 use Rattle.rule_tree.specs.Counts.{countsHold}
 use Rattle.rule_tree.specs.Change.{freshTree}
 use Rattle.rule_tree.proofs.Changing.{fresh-length}
-use Rattle.rule_tree.proofs.Plain.{ActionFits, PointFits}
+use Rattle.rule_tree.proofs.Plain.{ActionFits}
 use Rattle.rule_tree_laws.proofs.Sound.{TreeFits}
 use Rattle.trainer.specs.declared.settings.Settings.{Settings}
 use Rattle.trainer.specs.Settings.{settingsHold}
@@ -30,6 +29,7 @@ use Rattle.record.specs.Bytes.{bytesOf, valueFrom}
 use Rattle.record.specs.Write.{recordOf}
 use Rattle.record.proofs.Stands.{SettingsFits}
 use Rattle.record.proofs.RoundTrip.{TrainerFits}
+use Rattle.record.proofs.BytesFit.{zero-fits, plain-fits, ends-fit}
 use Rattle.panel_lines.specs.declared.Shown.the-variants.{Size}
 use Rattle.panel_lines.specs.Panel.{digits, shareOf, leafLines, linesOf, countsIn, countsShown, panelOf, outAfter}
 use Rattle.panel_lines.specs.Parts.{countsAfter, linesAfter}
@@ -42,17 +42,6 @@ example =
     48 ∷ 32 ∷ 49 ∷ 48 ∷ 48 ∷ 48 ∷ 10 ∷ []
 
 -- ---- the values of a fresh trainer fit their types
-zero-fits : T (fits binary64 cube.zero)
-unfolding fits
-zero-fits = tt
-
-ends-fit : PointFits cube.usualEnds
-unfolding fits
-ends-fit = record { acks = tt; sends = tt; ratios = tt }
-
-none-fits : ActionFits noAction
-none-fits = record { multiplier = zero-fits; increment = record { sfits = omega arith }; delay = zero-fits }
-
 module _ (s : Settings) (f : SettingsFits s) where
   abbrev tree : RuleTree
   tree = freshTree cube.usualEnds (s .«default_action»)
@@ -69,7 +58,7 @@ module _ (s : Settings) (f : SettingsFits s) where
       at (suc i) l =
           let e = getD-set-other (replicate 513 blankNode) 0 (suc i) (leafWith (s .«default_action»)) noNode (λ z. absurd (let q : suc i ≡ 0 = z in omega arith))
           ∙ getD-replicate 513 (suc i) blankNode noNode l in
-          subst (λ (x : Node). ActionFits (x .action)) (sym e) none-fits
+          subst (λ (x : Node). ActionFits (x .action)) (sym e) plain-fits
 
   stand-fits : (phase stage round : ℕ) → stage < 2 ^ 32 → round < 2 ^ 32 → TrainerFits (stand s tree phase stage round)
   stand-fits phase stage round a b = record {

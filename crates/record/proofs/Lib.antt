@@ -8,4 +8,6 @@ pub mod Size
 pub mod Stands
 pub mod RoundTrip
 pub mod Loading
+pub mod BytesFit
+pub mod Versions
 pub mod CallWays

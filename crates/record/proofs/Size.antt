@@ -233,7 +233,7 @@ module _ (lay : Layout) (v : ℕ) (t : Trainer) (g : grownOf (t .tree) ≡ true)
   record-small = let e = record-size in let m = size-most lay (t .tree .splits) (few (t .tree) g full) in omega arith
 
 module _ (t : Trainer) (g : grownOf (t .tree) ≡ true) (full : length (t .tree .nodes) ≡ 513) where
-  -- a record of s splits has 172 + 149 s bytes
+  -- a record of s splits has 172 + 170 s bytes
   pub record-count : length (recordOf t) ≡ 172 + 170 * t .tree .splits
   record-count = record-size (layoutOf version) version t g full ∙ size-second (t .tree .splits)
 

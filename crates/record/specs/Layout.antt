@@ -6,11 +6,12 @@ use Rattle.remy.specs.declared.action.Action.{Action}
 use Rattle.trainer.specs.declared.settings.Settings.{Settings}
 use Rattle.record.specs.declared.inner.layout.Layout.{Layout}
 
--- version 1 writes the leaves' actions and marks, the next every node's, and the one after that the tree's upper ends too
+-- version 1 writes the actions and marks "per leaf by rising node"; version 2 "writes them for every node by rising number"; a layout with the tree's
+-- upper ends too is that of a version that is not known
 abbrev pub layoutOf : ℕ → Layout
 layoutOf v = record { parents = ltb 1 v; ends = ltb 2 v }
 
--- the versions that are known: so far the first
+-- the versions that are known: "version byte 1", and "record version 2"
 abbrev pub knownOf : ℕ → Bool
 knownOf v = leb 1 v && leb v 2
 
@@ -18,7 +19,7 @@ knownOf v = leb 1 v && leb v 2
 abbrev pub carries : Layout → ℕ → Bool
 carries l c = l .parents || eqb c 0
 
--- what a parent holds that is not written
+-- what a parent holds that is not written: "its parents holding the default action, unmarked"
 abbrev pub givenAction : Settings → Action
 givenAction s = s .«default_action»
 

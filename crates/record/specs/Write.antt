@@ -77,7 +77,7 @@ unfoldable pub recordIn : Layout → ℕ → Trainer → List ℕ
 unfolding bytesOf numbersBytes payloadBytes
 recordIn l v t = bytesOf 4 (length (bodyIn l v t)) ++ bodyIn l v t
 
--- "version byte 1": what is saved
+-- what is saved: "it is written again as version 2"
 abbrev pub version : ℕ
 version = 2
 

@@ -38,7 +38,7 @@ pub fn carries_node(l: Layout, c: u16) -> bool
     c == 0
 }
 
-// What a parent holds that is not written.
+// The action of a parent that is not written.
 pub fn given(s: Settings) -> Action
     ensures { λ r. ⌜ r ≡ givenAction s ⌝ }
 {

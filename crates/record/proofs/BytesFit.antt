@@ -5,30 +5,29 @@ use mathlib.Core.List.{List, [], _∷_}
 use Prim.Native.Nat.{ℕ, zero, suc, _+_, _*_, _^_, _<_}
 use native.Mathlib.Nat.{pow-suc}
 use native.Mathlib.Omega.{arith}
-use lib.Dec.{ltb}
+use lib.Dec.{T, ltb}
 use lib.ListN.{getD, take, drop}
 use lib.Ieee.{binary64, fits}
 use lib.Ieee.Bits.{ofBits-fits}
 use mir.Syntax.{w32}
 use mir.ValLaws.{toZ-fits}
-use Rattle.remy.specs.Cube.{usualEnds}
+use Rattle.remy.specs.Cube as cube
 use Rattle.rule_tree.specs.declared.Node.{Node}
-use Rattle.rule_tree.specs.Nodes.{noNode, blankNode, nodeCount}
+use Rattle.rule_tree.specs.Nodes.{noNode, noAction, blankNode, nodeCount}
 use Rattle.rule_tree.proofs.Plain.{ActionFits, PointFits}
 use Rattle.rule_tree.proofs.Lists.{length-tabulate, getD-tabulate}
 use Rattle.trainer.specs.declared.Trainer.{Trainer}
 use Rattle.trainer.specs.declared.Answered.{Answered}
 use Rattle.trainer.specs.Phases.{refuse, taken}
 use Rattle.trainer.specs.Calls.{blankTrainer}
 use Rattle.record.specs.Bytes.{valueFrom, numberAt}
 use Rattle.record.specs.declared.inner.layout.Layout.{Layout}
 use Rattle.record.specs.Layout.{layoutOf, givenAction, listPlace, statePlace}
 use Rattle.record.specs.Read.{actionAt, flagAt, settingsAt, pointAt, endsAt, splitCount, linkOf, carriedAt, payloadPlace, nodeAtPlace, readIn, versionAt, readOf}
 use Rattle.record.specs.Calls.{lengthHolds, versionHolds, bodyHolds, loadOf}
 use Rattle.record.proofs.Bytes.{below-most}
 use Rattle.record.proofs.Stands.{SettingsFits}
 use Rattle.record.proofs.RoundTrip.{TrainerFits}
-use Rattle.host_trainer.proofs.TreesFit.{plain-fits, ends-fit}
 
 -- ---- bytes
 -- every element is a byte
@@ -77,9 +76,21 @@ settings-fits bytes at h =
       default = action-fits bytes (at + 93) h;
     }
 
+-- ---- what is not read
+pub zero-fits : T (fits binary64 cube.zero)
+unfolding fits
+zero-fits = tt
+
+pub plain-fits : ActionFits noAction
+plain-fits = record { multiplier = zero-fits; increment = record { sfits = omega arith }; delay = zero-fits }
+
+pub ends-fit : PointFits cube.usualEnds
+unfolding fits
+ends-fit = record { acks = tt; sends = tt; ratios = tt }
+
 -- ---- a trainer that is read from bytes
-given-fits : (bytes : List ℕ) → ActionFits (givenAction (settingsAt bytes 5))
-given-fits bytes = plain-fits
+given-fits : (bytes : List ℕ) → Bytes bytes → ActionFits (givenAction (settingsAt bytes 5))
+given-fits bytes h = settings-fits bytes 5 h .default
 
 place-fits : (lay : Layout) (bytes : List ℕ) (s i : ℕ) → Bytes bytes → ActionFits (nodeAtPlace lay (givenAction (settingsAt bytes 5)) bytes s i .action)
 unfolding nodeAtPlace
@@ -94,13 +105,13 @@ place-fits lay bytes s i h = go (ltb i (nodeCount s)) (carriedAt lay bytes s i)
         blankNode
         .action)
     go true true = action-fits bytes (payloadPlace lay bytes s i) h
-    go true false = given-fits bytes
+    go true false = given-fits bytes h
     go false c = plain-fits
 
 ends-read-fit : (lay : Layout) (bytes : List ℕ) (at : ℕ) → PointFits (endsAt lay bytes at)
 ends-read-fit lay bytes at = go (lay .ends)
   where
-    go : (b : Bool) → PointFits (cond b (pointAt bytes at) usualEnds)
+    go : (b : Bool) → PointFits (cond b (pointAt bytes at) cube.usualEnds)
     go true =
         record {
           acks = ofBits-fits binary64 (numberAt bytes at 8);
@@ -136,7 +147,7 @@ read-fits lay bytes h =
 refusal : (k : ℕ) (t : Trainer) → refuse (suc k) blankTrainer ≡ taken t → ⊥
 refusal k t e = let q : suc k ≡ 0 = ap (λ (a : Answered). a .refused) e in omega arith
 
-loaded-is : (bytes : List ℕ) (t : Trainer) → loadOf bytes ≡ taken t → readOf bytes ≡ t
+pub loaded-is : (bytes : List ℕ) (t : Trainer) → loadOf bytes ≡ taken t → readOf bytes ≡ t
 unfolding loadOf
 loaded-is bytes t e = go (lengthHolds bytes) (versionHolds bytes) (bodyHolds bytes) e
   where
