@@ -27,13 +27,13 @@ use Rattle.rule_tree.specs.Nodes.{nodeAt, childrenOf}
 use Rattle.rule_tree.specs.Grown.{grownOf}
 use Rattle.rule_tree.specs.Walk.{leafOf, walkOf}
 use Rattle.rule_tree.specs.Counts.{eligible, better, mostUsed}
-use Rattle.rule_tree.specs.Change.{freshTree, withAction, withMark, withoutMarks, splitAt}
-use Rattle.rule_tree.specs.Calls.{refuse, taken, blankTree, leafIn, newOf, setOf, markOf, clearOf, splitOf, domainOf, foundIn, lookupOf, replacedOf, tallyOf, countedIn, parentsOf, usedOf, mostUsedOf, equalOf}
+use Rattle.rule_tree.specs.Change.{freshTree, withAction, withMark, withoutMarks, splitAt, undone}
+use Rattle.rule_tree.specs.Calls.{refuse, taken, blankTree, leafIn, newOf, setOf, markOf, clearOf, splitOf, undoOf, domainOf, foundIn, lookupOf, replacedOf, tallyOf, countedIn, parentsOf, usedOf, mostUsedOf, equalOf}
 use Rattle.rule_tree.proofs.GrownTree.{grown-facts, grown-long, leaf-below}
 use Rattle.rule_tree.proofs.Looking.{replaced-same, replaced-other}
 use Rattle.rule_tree_view.specs.View.{viewedTree, viewOf}
 use Rattle.refusals.specs.Told.{Given, none, value, Told, told, refusedWith, lookedTold, domainTold, talliedTold, chosenTold, numberTold, comparedTold}
-use Rattle.refusals.specs.Order.{newOrder, setOrder, markOrder, clearOrder, splitOrder, domainOrder, lookupOrder, replacedOrder, viewOrder, tallyOrder, parentsOrder, countedOrder, equalOrder}
+use Rattle.refusals.specs.Order.{newOrder, setOrder, markOrder, clearOrder, splitOrder, undoOrder, domainOrder, lookupOrder, replacedOrder, viewOrder, tallyOrder, parentsOrder, countedOrder, equalOrder}
 use Rattle.refusals.specs.Gives.{domainGives, lookupGives, replacedGives, viewGives, tallyGives, parentsGives, usedGives, nodeFrom, mostUsedGives, equalGives}
 use Rattle.refusals.proofs.Ways.{either, both, tells}
 
@@ -57,6 +57,10 @@ clear-order t = refl
 pub split-order : (t : RuleTree) (i : ℕ) → splitOf t i ≡ guarded (splitOrder t i) (λ k. refuse k t) (taken (splitAt t i))
 unfolding splitOf
 split-order t i = refl
+
+pub undo-order : (t : RuleTree) → undoOf t ≡ guarded (undoOrder t) (λ k. refuse k t) (taken (undone t))
+unfolding undoOf
+undo-order t = refl
 
 -- ---- calls that answer by an enum
 pub domain-told : (t : RuleTree) (i : ℕ) → domainTold (domainOf t i) ≡ guarded (domainOrder t i) refusedWith (told (domainGives t i))

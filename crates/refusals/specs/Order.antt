@@ -75,6 +75,10 @@ clearOrder t = test (grownOf t) 10 ∷ []
 abbrev pub splitOrder : RuleTree → ℕ → List Test
 splitOrder t i = test (grownOf t) 10 ∷ test (leafIn t i) 3 ∷ test (ltb (t .splits) 64) 20 ∷ []
 
+-- 02: "Taking back with no split made is refused with 24, after 10 alone"
+abbrev pub undoOrder : RuleTree → List Test
+undoOrder t = test (grownOf t) 10 ∷ test (ltb 0 (t .splits)) 24 ∷ []
+
 abbrev pub parentsOrder : RuleTree → List Test
 parentsOrder t = test (grownOf t) 10 ∷ []
 
