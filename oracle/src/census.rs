@@ -25,6 +25,7 @@ fn name(call: &Call) -> &'static str {
         Call::PrintTree => "tree",
         Call::Load(_) => "load",
         Call::Equal(_) => "equal",
+        Call::UndoSplit => "undo",
     }
 }
 

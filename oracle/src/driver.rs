@@ -5,13 +5,14 @@
 use std::{cell::RefCell, collections::HashMap, fmt::Write, rc::Rc, sync::atomic::Ordering};
 
 use flowforge::{
+    ccas::remy::rule_tree::RuleTree,
     harness::{self, Asked, Host},
     trainers::remy::RemyTrainer,
 };
 
 use crate::{
-    plain::{bits, Action, Answer, Kind, Phase, Refused, Sender, Trainer},
-    rust::{disagree, of_action, same_sender, same_tree, shown, Originals},
+    plain::{bits, Action, Answer, Phase, Refused, Sender, Trainer, Tree},
+    rust::{disagree, grow, of_action, same_sender, same_tree, shown, Originals, Shown},
     script::{repeat, Call, Reader},
 };
 
@@ -323,7 +324,8 @@ impl Player {
     fn load(&mut self, record: &[u8]) -> Result<Went, Refused> {
         let trainer = Trainer::load(record)?;
         self.line("loaded");
-        if self.followed && record == self.trainer.record() {
+        let again = trainer.record();
+        if self.followed && again == self.trainer.record() {
             return Ok(Went::On);
         }
         self.originals.load(&trainer);
@@ -332,9 +334,9 @@ impl Player {
             self.originals.same_candidates(&trainer.tree.leaf(*leaf).unwrap().0, list);
         }
         let fresh = Trainer::start(trainer.settings.clone()).map(|t| t.record());
-        let answers = match self.saved.get(record) {
+        let answers = match self.saved.get(&again) {
             Some(answers) => Some(answers.clone()),
-            None if fresh.as_deref() == Ok(record) => Some(Vec::new()),
+            None if fresh == Ok(again) => Some(Vec::new()),
             None => None,
         };
         self.trainer = trainer;
@@ -395,7 +397,13 @@ impl Player {
             }
             Call::PrintTree => {
                 same_tree("the tree", &self.originals.tree.borrow(), tree);
-                self.tree_lines()
+                tree_lines(&self.originals.tree.borrow(), tree)
+            }
+            Call::UndoSplit => {
+                let tree = tree.undo_split()?;
+                let original = grow(&self.trainer.settings, &tree);
+                same_tree("the tree with its newest split taken back", &original, &tree);
+                tree_lines(&original, &tree)
             }
             Call::Equal(record) => {
                 let other = Trainer::load(&record)?;
@@ -405,24 +413,6 @@ impl Player {
             }
             Call::Counts(_) | Call::Score(_) | Call::Reload(_) | Call::Load(_) => unreachable!(),
         })
-    }
-
-    fn tree_lines(&self) -> String {
-        let tree = self.originals.tree.borrow();
-        let mut text = format!("tree {}", tree.field_nodes().len());
-        for (number, node) in shown(&tree).enumerate() {
-            match node.kind {
-                Kind::Leaf { action, mark } => {
-                    write!(text, "\n{number} leaf {} {}", u8::from(mark), words(&action)).unwrap();
-                }
-                Kind::Parent { child } => write!(text, "\n{number} parent {child}").unwrap(),
-            }
-            for end in node.ends {
-                text.push(' ');
-                text.push_str(&hex(end));
-            }
-        }
-        text
     }
 
     fn print_sender(&mut self) {
@@ -458,6 +448,23 @@ impl Player {
         push_hex(&mut line, &self.trainer.record());
         self.line(&line);
     }
+}
+
+/// Leaves and cubes as the originals have them; what a parent keeps is the model's alone.
+fn tree_lines(original: &RuleTree, plain: &Tree) -> String {
+    let mut text = format!("tree {}", original.field_nodes().len());
+    for (number, node) in shown(original).enumerate() {
+        let (name, (action, mark)) = match node.kind {
+            Shown::Leaf { action, mark } => ("leaf".to_owned(), (action, mark)),
+            Shown::Parent { child } => (format!("parent {child}"), plain.held(number)),
+        };
+        write!(text, "\n{number} {name} {} {}", u8::from(mark), words(&action)).unwrap();
+        for end in node.ends {
+            text.push(' ');
+            text.push_str(&hex(end));
+        }
+    }
+    text
 }
 
 /// Both sides' answer, which is one.

@@ -137,13 +137,13 @@ fn number(handle: &LeafHandle<'_>) -> usize {
     handle.augmented_tree(any).field_rule_override().0
 }
 
-/// A tree grown by the originals to what a trainer of 01 holds.
-pub fn grow(trainer: &Trainer) -> RuleTree {
-    let mut tree = RuleTree::default(to_action(&trainer.settings.default));
-    for node in &trainer.tree.splits {
+/// A tree grown by the originals to one of 01.
+pub fn grow(settings: &Settings, plain: &Tree) -> RuleTree {
+    let mut tree = RuleTree::default(to_action(&settings.default));
+    for node in &plain.splits {
         leaf(&mut tree, *node).split();
     }
-    for (node, action, mark) in trainer.tree.leaves() {
+    for (node, action, mark) in plain.leaves() {
         let mut handle = leaf(&mut tree, node);
         *handle.action() = to_action(&action);
         if mark {
@@ -153,9 +153,16 @@ pub fn grow(trainer: &Trainer) -> RuleTree {
     tree
 }
 
+/// What the originals have of a parent is its children alone.
+#[derive(Clone, Copy, Debug)]
+pub enum Shown {
+    Leaf { action: Action, mark: bool },
+    Parent { child: usize },
+}
+
 #[derive(Clone, Copy, Debug)]
 pub struct ShownNode {
-    pub kind: Kind,
+    pub kind: Shown,
     pub ends: [f64; 6],
 }
 
@@ -164,14 +171,14 @@ pub fn shown(tree: &RuleTree) -> impl Iterator<Item = ShownNode> + '_ {
         let (domain, kind) = match node {
             RuleTreeNode::Leaf { domain, action, optimized } => {
                 let (action, mark) = (of_action(action), *optimized);
-                (domain, Kind::Leaf { action, mark })
+                (domain, Shown::Leaf { action, mark })
             }
             RuleTreeNode::Node { domain, children } => {
                 let child = children[0];
                 if !children.iter().copied().eq(child..child + 8) {
                     disagree("children", children, "eight in a row");
                 }
-                (domain, Kind::Parent { child })
+                (domain, Shown::Parent { child })
             }
         };
         let ends = [
@@ -186,15 +193,15 @@ pub fn shown(tree: &RuleTree) -> impl Iterator<Item = ShownNode> + '_ {
     })
 }
 
-/// Node by node and bit for bit, marks included.
+/// Node by node and bit for bit, the leaves' marks included.
 pub fn same_tree(what: &str, original: &RuleTree, plain: &Tree) {
     if original.field_nodes().len() != plain.nodes.len() {
         disagree(what, original.field_nodes().len(), plain.nodes.len());
     }
     for (number, (o, p)) in shown(original).zip(&plain.nodes).enumerate() {
         let kinds = match (o.kind, p.kind) {
-            (Kind::Leaf { action, mark }, Kind::Leaf { action: a, mark: m }) => action.same(&a) && mark == m,
-            (Kind::Parent { child }, Kind::Parent { child: c }) => child == c,
+            (Shown::Leaf { action, mark }, Kind::Leaf { action: a, mark: m }) => action.same(&a) && mark == m,
+            (Shown::Parent { child }, Kind::Parent { child: c, .. }) => child == c,
             _ => false,
         };
         let ends = p.cube.min.iter().chain(&p.cube.max);
@@ -243,7 +250,7 @@ pub struct Originals {
 
 impl Originals {
     pub fn new(trainer: &Trainer, repeat: Repeat) -> Originals {
-        let tree = Rc::new(RefCell::new(grow(trainer)));
+        let tree = Rc::new(RefCell::new(grow(&trainer.settings, &trainer.tree)));
         let found = Rc::new(Cell::new(None));
         let policy = TreeInUse { tree: tree.clone(), found: found.clone() };
         let actions = match repeat {
@@ -264,7 +271,7 @@ impl Originals {
 
     /// A loaded trainer takes the trainer's place.
     pub fn load(&mut self, trainer: &Trainer) {
-        *self.tree.borrow_mut() = grow(trainer);
+        *self.tree.borrow_mut() = grow(&trainer.settings, &trainer.tree);
         self.settings = to_settings(&trainer.settings);
         self.greatest_delay = trainer.settings.max.delay;
     }
@@ -352,7 +359,7 @@ impl Originals {
     }
 
     pub fn equal(&self, other: &Trainer) -> bool {
-        *self.tree.borrow() == grow(other)
+        *self.tree.borrow() == grow(&other.settings, &other.tree)
     }
 
     pub fn sender(&self) -> SenderState {

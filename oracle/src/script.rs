@@ -31,6 +31,7 @@ pub enum Call {
     PrintTree,
     Load(Vec<u8>),
     Equal(Vec<u8>),
+    UndoSplit,
 }
 
 #[derive(Debug)]
@@ -140,6 +141,7 @@ impl<'a> Reader<'a> {
             12 => Call::PrintTree,
             13 => Call::Load(self.record()?),
             14 => Call::Equal(self.record()?),
+            17 => Call::UndoSplit,
             _ => return Err(BadScript),
         }))
     }
@@ -248,6 +250,7 @@ impl Writer {
                 self.bytes.push(14);
                 self.record(record);
             }
+            Call::UndoSplit => self.bytes.push(17),
         }
     }
 }

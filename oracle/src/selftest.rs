@@ -14,9 +14,9 @@ use crate::{
     driver::play,
     gen,
     plain::{
-        admitted, bits, Ack, Action, Answer, Cube, Kind, Phase, Repeat, Sender, Settings, Trainer, Tree,
+        admitted, bits, Ack, Action, Answer, Cube, Phase, Repeat, Sender, Settings, Trainer, Tree,
     },
-    rust::{as_given, grow, improvements, leaf, shown, to_action},
+    rust::{as_given, grow, improvements, leaf, shown, to_action, Shown},
     script::{Call, Header, Writer},
 };
 
@@ -51,6 +51,8 @@ pub fn run() -> i32 {
         phases,
         scores,
         sizes,
+        undone,
+        versions,
         accepted,
         refused_records,
         sending,
@@ -249,7 +251,7 @@ fn cubes(t: &mut Table) {
     for k in 0..64 {
         trainer.tree.split(8 * k).unwrap();
     }
-    let original = grow(&trainer);
+    let original = grow(&trainer.settings, &trainer.tree);
     let nodes: Vec<_> = shown(&original).collect();
     let empty = |split: usize| {
         nodes[8 * split - 7..=8 * split].iter().any(|n| (0..3).any(|axis| n.ends[axis] == n.ends[axis + 3]))
@@ -301,18 +303,19 @@ fn trees(t: &mut Table) {
         let calls = [Call::Load(grown(&[0]).record()), Call::LookupReplaced(leaf, replacing, point)];
         t.row(&format!("replaced: {name}"), answers(&s, &calls), format!("loaded; {want}"));
     }
-    let mut tree = grow(&grown(&[0]));
+    let split = grown(&[0]);
+    let mut tree = grow(&split.settings, &split.tree);
     leaf(&mut tree, 3).mark_optimized();
     leaf(&mut tree, 3).mark_optimized();
     *leaf(&mut tree, 3).action() = to_action(&good);
     let marks: Vec<usize> = (0..9)
-        .filter(|n| matches!(shown(&tree).nth(*n).unwrap().kind, Kind::Leaf { mark: true, .. }))
+        .filter(|n| matches!(shown(&tree).nth(*n).unwrap().kind, Shown::Leaf { mark: true, .. }))
         .collect();
     t.row("the original's set action keeps the mark", format!("{marks:?}"), "[3]");
     tree.mark_all_unoptimized();
     t.row(
         "the original's clear",
-        shown(&tree).any(|n| matches!(n.kind, Kind::Leaf { mark: true, .. })),
+        shown(&tree).any(|n| matches!(n.kind, Shown::Leaf { mark: true, .. })),
         false,
     );
 
@@ -657,13 +660,70 @@ fn sizes(t: &mut Table) {
     for k in 0..64 {
         full.tree.split(8 * k).unwrap();
     }
-    t.row("64 splits", full.record().len(), 9708);
+    t.row("64 splits", full.record().len(), 11_052);
+    t.row("64 splits in version 1", full.first_record().len(), 9708);
     let s = default_settings();
     let hex: String = fresh.iter().map(|b| format!("{b:02x}")).collect();
     t.row("a buffer that fits", answers(&s, &[Call::Reload(172)]), format!("saved {hex}"));
     t.row("a longer one", answers(&s, &[Call::Reload(u16::MAX)]), format!("saved {hex}"));
     t.row("a short one", answers(&s, &[Call::Reload(171), Call::Reload(0)]), "refused 9; refused 9");
     t.row("the script's record", record_hex(&lines(&s, &[])), hex);
+}
+
+/// The lines of a tree's nodes, without their cubes.
+fn nodes_of(lines: &[String]) -> String {
+    let short = |line: &String| {
+        let words: Vec<&str> = line.split(' ').collect();
+        words[..words.len() - 6].join(" ")
+    };
+    let nodes = lines.iter().filter(|l| l.contains(" leaf ") || l.contains(" parent "));
+    nodes.map(short).collect::<Vec<_>>().join("; ")
+}
+
+fn undone(t: &mut Table) {
+    let s = few(3, 1, false);
+    t.row("no split to take back", answers(&s, &[Call::UndoSplit]), "refused 24");
+    let mut before = grown(&[]);
+    before.tree.hold(0, (action(0.5, 7, 0.25), true));
+    let mut after = before.clone();
+    after.tree.split(0).unwrap();
+    after.tree.clear_marks();
+    let calls = [Call::Load(after.record()), Call::UndoSplit];
+    let kept = "0 leaf 1 3fe0000000000000 7 3fd0000000000000";
+    t.row("split, marks cleared, taken back", nodes_of(&lines(&s, &calls)), kept);
+    let printed = nodes_of(&lines(&s, &[Call::Load(after.record()), Call::PrintTree]));
+    t.row(
+        "what the parent keeps",
+        printed.split("; ").next().unwrap(),
+        "0 parent 1 1 3fe0000000000000 7 3fd0000000000000",
+    );
+    let calls = [Call::Load(after.first_record()), Call::UndoSplit];
+    t.row("of version 1", nodes_of(&lines(&s, &calls)), "0 leaf 0 3ff0000000000000 1 3f689374bc6a7efa");
+    let twice = grown(&[0, 3]);
+    let calls = [Call::Load(twice.record()), Call::UndoSplit];
+    t.row("the newest of two", nodes_of(&lines(&s, &calls)).matches(" leaf ").count(), 8);
+    t.row("as before it", twice.tree.undo_split().unwrap().equal(&grown(&[0]).tree), true);
+    let calls = [Call::Load(twice.record()), Call::UndoSplit, Call::PrintTree];
+    t.row("the trainer stays", nodes_of(&lines(&s, &calls)).matches(" parent ").count(), 3);
+}
+
+fn versions(t: &mut Table) {
+    let s = few(3, 1, false);
+    let mut split = grown(&[0]);
+    split.tree.hold(0, (action(0.5, 7, 0.25), true));
+    let hex = |record: &[u8]| record.iter().map(|b| format!("{b:02x}")).collect::<String>();
+    for (name, record) in [("2", split.record()), ("1", grown(&[0]).first_record())] {
+        let trainer = Trainer::load(&record).unwrap();
+        let played = lines(&s, &[Call::Load(record)]);
+        t.row(
+            &format!("version {name} is written again as version 2"),
+            record_hex(&played),
+            hex(&trainer.record()),
+        );
+    }
+    let first = Trainer::load(&split.first_record()).unwrap();
+    t.row("what version 1 gives a parent", hex(&first.record()), hex(&grown(&[0]).record()));
+    t.row("version 2 as it was", hex(&Trainer::load(&split.record()).unwrap().record()), hex(&split.record()));
 }
 
 fn loaded(record: &[u8]) -> String {
@@ -785,7 +845,8 @@ fn refused_records(t: &mut Table) {
         ("three bytes", vec![0, 0, 0], "refused 6"),
         ("u32 0", vec![0; 4], "refused 7"),
         ("u32 1, version 1", vec![0, 0, 0, 1, 1], "refused 8"),
-        ("u32 1, version 2", vec![0, 0, 0, 1, 2], "refused 7"),
+        ("u32 1, version 2", vec![0, 0, 0, 1, 2], "refused 8"),
+        ("u32 1, version 3", vec![0, 0, 0, 1, 3], "refused 7"),
         ("a byte more", with(&|r| r.push(0)), "refused 6"),
         ("a byte less", with(&|r| r.truncate(end - 1)), "refused 6"),
         (
@@ -807,7 +868,8 @@ fn refused_records(t: &mut Table) {
         ("16,384", padded(16_384), "refused 8"),
         ("16,385", padded(16_385), "refused 6"),
         ("version 0", with(&|r| r[4] = 0), "refused 7"),
-        ("version 2, bad body", with(&|r| (r[4], r[17]) = (2, 9)), "refused 7"),
+        ("version 3, bad body", with(&|r| (r[4], r[17]) = (3, 9)), "refused 7"),
+        ("version 1, as it is", with(&|r| r[4] = 1), "loaded"),
         ("drill 2", with(&|r| r[17] = 2), "refused 8"),
         ("65 splits", with(&|r| r[8] = 65), "refused 8"),
         ("mark 2", with(&|r| r[end - 32] = 2), "refused 8"),

@@ -7,7 +7,6 @@ use mathlib.Core.Logic.{⊎-elim}
 use Prim.Native.Nat.{ℕ, zero, suc, _+_, _*_, _/_, _^_, _<_, _≤_}
 use native.Mathlib.Nat.{eq-or-lt-of-le}
 use native.Mathlib.Omega.{arith}
-use borrow.Author.Tests.{eq-eqb}
 use lib.Dec.{T, eqb}
 use lib.Ieee.{binary64, fits}
 use lib.ListN.{length, getD, take}

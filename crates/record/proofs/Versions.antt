@@ -24,12 +24,12 @@ use Rattle.trainer.specs.State.{acceptedOf}
 use Rattle.record.specs.declared.inner.layout.Layout.{Layout}
 use Rattle.record.specs.Bytes.{bytesOf}
 use Rattle.record.specs.Layout.{layoutOf, carries, givenAction, listPlace}
-use Rattle.record.specs.Write.{version, recordIn, recordOf}
+use Rattle.record.specs.Write.{recordIn, recordOf}
 use Rattle.record.specs.Read.{actionAt, flagAt, settingsAt, pointAt, splitCount, linkOf, payloadPlace, nodeAtPlace, readIn, versionAt}
 use Rattle.record.specs.Calls.{loadOf}
 use Rattle.record.proofs.Bytes.{never}
 use Rattle.record.proofs.Layouts.{size-first}
-use Rattle.record.proofs.Size.{carried, record-size}
+use Rattle.record.proofs.Size.{record-size}
 use Rattle.record.proofs.RoundTrip.{TrainerFits, Carried}
 use Rattle.record.proofs.Loading.{load-carried, load-saved, load-again, accepted-grown}
 use Rattle.record.proofs.BytesFit.{Bytes, loaded-is, loaded-fits}

@@ -3,6 +3,7 @@ use crate::input;
 use crate::lines;
 use record::Saved;
 use rule_tree::AugmentedRuleTree;
+use rule_tree::Changed;
 use rule_tree::RuleTree;
 use rule_tree::Tallied;
 use sender::Reply;
@@ -252,6 +253,22 @@ fn print_tree(r: Replay, out: &mut [u8]) -> Replay {
     printed(r, at)
 }
 
+fn undone_line(out: &mut [u8], at: usize, c: Changed) -> usize {
+    if c.refused == 0 {
+        let tree = c.tree;
+        return lines::tree(out, at, tree);
+    }
+    lines::refused(out, at, c.refused)
+}
+
+// The newest split taken back, on a copy of the tree: the trainer stays.
+fn undo_split(r: Replay, out: &mut [u8]) -> Replay {
+    let trainer = r.trainer;
+    let tree = trainer.tree;
+    let at = undone_line(out, r.at, tree.undo_split());
+    printed(r, at)
+}
+
 fn equal_line(out: &mut [u8], at: usize, t: RuleTree, a: Answered) -> usize {
     if a.refused == 0 {
         let loaded = a.trainer;
@@ -293,6 +310,7 @@ fn tree_call(r: Replay, code: u8, fields: &[u8], out: &mut [u8]) -> Replay {
         10 => tally(r, fields, out),
         11 => candidate(r, fields, out),
         12 => print_tree(r, out),
+        17 => undo_split(r, out),
         _ => equal(r, fields, out),
     }
 }

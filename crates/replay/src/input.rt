@@ -183,7 +183,7 @@ fn head_size(code: u8) -> usize
 }
 
 fn known(code: u8) -> bool {
-    1 <= code && code <= 14
+    (1 <= code && code <= 14) || code == 17
 }
 
 // A call whose fields are the next n bytes, at most so many.

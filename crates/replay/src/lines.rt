@@ -185,16 +185,22 @@ pub(crate) fn compared(out: &mut [u8], at: usize, c: Compared) -> usize {
     }
 }
 
+// A leaf, or a parent and its first child.
+fn kind(out: &mut [u8], at: usize, x: Node) -> usize {
+    if x.children == 0 {
+        return output::text(out, at, b" leaf");
+    }
+    output::named(out, at, b" parent", x.children as u64)
+}
+
 // What a node is, without its cube.
 fn node(out: &mut [u8], at: usize, i: u16, x: Node) -> usize {
+    let a = x.action;
+    let mark: u64 = if x.optimized { 1 } else { 0 };
     let next = output::decimal(out, at, i as u64);
-    if x.children == 0 {
-        let a = x.action;
-        let mark: u64 = if x.optimized { 1 } else { 0 };
-        let next = output::named(out, next, b" leaf", mark);
-        return output::action(out, next, a);
-    }
-    output::named(out, next, b" parent", x.children as u64)
+    let next = kind(out, next, x);
+    let next = output::number(out, next, mark);
+    output::action(out, next, a)
 }
 
 fn cube(out: &mut [u8], at: usize, d: Domain) -> usize {

@@ -28,7 +28,7 @@ pub(crate) fn flush(out: &[u8], at: usize) {
     io::write_all(1, &out[..k]);
 }
 
-// The longest lines have some 19,500 bytes, of a buffer of 65,536.
+// The longest lines have some 22,200 bytes, of a buffer of 65,536.
 pub(crate) fn end_line(out: &mut [u8], at: usize) -> usize {
     let next = byte(out, at, b'\n');
     if next < 40000 {

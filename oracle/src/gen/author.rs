@@ -11,6 +11,8 @@ use crate::{
 
 pub struct Author {
     pub dice: Dice,
+    /// Which version a record is written in, and what its parents hold.
+    pub versions: Dice,
     pub writer: Writer,
     pub trainer: Trainer,
     pub sender: Sender,
@@ -29,6 +31,7 @@ impl Author {
             clock: dice.unit() * 100.0,
             saved: Vec::new(),
             scores,
+            versions: dice.beside(),
             dice,
         }
     }
@@ -142,7 +145,8 @@ impl Author {
     pub fn good_answer(&mut self) {
         if matches!(self.trainer.phase, Phase::Done) && !self.dice.one_in(5) {
             let start = Trainer::start(self.trainer.settings.clone()).expect("settings that hold");
-            self.call(Call::Load(start.record()));
+            let record = self.written(&start);
+            self.call(Call::Load(record));
         }
         let call = if self.wants_score() {
             Call::Score(self.score())

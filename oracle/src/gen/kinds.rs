@@ -97,7 +97,7 @@ pub fn splits_are_full(author: &mut Author) {
                 let score = author.score();
                 author.call(Call::Score(score));
             }
-            2 => author.call(Call::Reload(author.dice.clone().pick(&[9_707, 9_708, 9_709]))),
+            2 => author.call(Call::Reload(author.dice.clone().pick(&[11_051, 11_052, 11_053]))),
             _ => {
                 let used = author.dice.below(2);
                 let counts = author.counts(used);
@@ -290,7 +290,8 @@ pub fn candidate(mut dice: Dice) -> Vec<u8> {
         if author.dice.one_in(8) {
             let settings = edge_settings(&mut author.dice);
             let trainer = Trainer::start(settings).expect("settings that hold");
-            author.call(Call::Load(trainer.record()));
+            let record = author.written(&trainer);
+            author.call(Call::Load(record));
         }
     }
     if author.dice.one_in(3) {
@@ -304,7 +305,8 @@ pub fn candidate(mut dice: Dice) -> Vec<u8> {
 pub fn damage(dice: Dice) -> Vec<u8> {
     let mut author = Author::small(dice);
     let splits = author.some_splits();
-    let record = author.crafted(splits).record();
+    let trainer = author.crafted(splits);
+    let record = author.written(&trainer);
     let whole = record.len() < 400 && author.dice.one_in(3);
     let at: Vec<usize> = if whole {
         (0..record.len()).collect()
@@ -347,11 +349,13 @@ pub fn equal(dice: Dice) -> Vec<u8> {
     for _ in 0..author.dice.within(1, 3) {
         let splits = author.some_splits();
         let one = author.crafted(splits);
-        author.call(Call::Load(one.record()));
+        let record = author.written(&one);
+        author.call(Call::Load(record));
         for _ in 0..author.dice.within(1, 6) {
             let mut other = author.another_order(&author.trainer.clone());
             author.vary(&mut other);
-            author.call(Call::Equal(other.record()));
+            let record = author.written(&other);
+            author.call(Call::Equal(record));
         }
     }
     author.done()
@@ -392,7 +396,9 @@ pub fn limits(dice: Dice) -> Vec<u8> {
         let mut settings = if dice.one_in(3) { edge_settings(dice) } else { small_settings(dice, 8) };
         vary_settings(&mut settings, dice);
         let action = near_action(&settings, dice);
-        let record = unchecked(settings).record();
+        let trainer = unchecked(settings);
+        let record = author.written(&trainer);
+        let dice = &mut author.dice;
         let call = if dice.one_in(8) { Call::Equal(record) } else { Call::Load(record) };
         let k = dice.below(20) as u32;
         author.call(call);
@@ -403,7 +409,7 @@ pub fn limits(dice: Dice) -> Vec<u8> {
 
 /// A script of another kind that is cut, or goes on with what is no call.
 pub fn cut(mut dice: Dice) -> Vec<u8> {
-    let others: Vec<_> = KINDS.iter().filter(|(name, _)| *name != "cut").collect();
+    let others: Vec<_> = KINDS.iter().filter(|(name, _)| !["cut", "undo"].contains(name)).collect();
     let (_, author) = others[dice.below(others.len())];
     let mut script = author(Dice(dice.next()));
     if dice.one_in(2) {
@@ -449,4 +455,35 @@ pub fn mixed(dice: Dice) -> Vec<u8> {
         }
     }
     author.done()
+}
+
+/// Splits taken back: of trees that answers grew, of loaded ones in either version, and of those taken back before.
+pub fn undo(dice: Dice) -> Vec<u8> {
+    let mut author = Author::small(dice);
+    for _ in 0..author.dice.within(2, 12) {
+        match author.dice.below(8) {
+            0 => {
+                let splits = author.some_splits();
+                author.load_crafted(splits);
+            }
+            1 | 2 => author.load_undone(),
+            3 if !author.saved.is_empty() => {
+                let at = author.dice.below(author.saved.len());
+                let record = author.saved[at].clone();
+                author.call(Call::Load(record));
+            }
+            4 => author.aside(),
+            5 => author.call(Call::Reload(u16::MAX)),
+            _ => author.finish(8, 0),
+        }
+        if author.dice.one_in(2) {
+            author.call(Call::PrintTree);
+        }
+        author.call(Call::UndoSplit);
+    }
+    let mut script = author.writer.bytes;
+    if author.dice.one_in(8) {
+        script.extend([17, author.dice.pick(&[15, 16, 18])]);
+    }
+    script
 }

@@ -21,6 +21,7 @@ pub const KINDS: &[(&str, fn(Dice) -> Vec<u8>)] = &[
     ("limits", kinds::limits),
     ("cut", kinds::cut),
     ("mixed", kinds::mixed),
+    ("undo", kinds::undo),
 ];
 
 /// None where there is no such kind.
@@ -44,6 +45,11 @@ impl Dice {
         z = (z ^ (z >> 30)).wrapping_mul(0xbf58_476d_1ce4_e5b9);
         z = (z ^ (z >> 27)).wrapping_mul(0x94d0_49bb_1331_11eb);
         z ^ (z >> 31)
+    }
+
+    /// Dice of their own: what they throw does not change what these throw.
+    fn beside(&self) -> Dice {
+        Dice(!self.0)
     }
 
     fn below(&mut self, n: usize) -> usize {

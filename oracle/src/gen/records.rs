@@ -61,6 +61,12 @@ impl Author {
                 }
             }
         }
+        for node in tree.splits.clone() {
+            let (action, mark) = tree.held(node);
+            let dice = &mut self.versions;
+            let action = if dice.one_in(2) { valid_action(dice) } else { action };
+            tree.hold(node, (action, mark || dice.one_in(2)));
+        }
         let mut trainer = Trainer {
             stage: settings.rule_splits + 1,
             round: 0,
@@ -115,9 +121,31 @@ impl Author {
         Some(Phase::Candidates { leaf, best, k, kept, list })
     }
 
+    /// The trainer's record, in either version.
+    pub fn written(&mut self, trainer: &Trainer) -> Vec<u8> {
+        if self.versions.one_in(3) {
+            trainer.first_record()
+        } else {
+            trainer.record()
+        }
+    }
+
     pub fn load_crafted(&mut self, splits: usize) {
-        let record = self.crafted(splits).record();
+        let trainer = self.crafted(splits);
+        let record = self.written(&trainer);
         self.call(Call::Load(record));
+    }
+
+    /// A trainer whose tree is the present one with its newest split taken back.
+    pub fn load_undone(&mut self) {
+        if let Ok(tree) = self.trainer.tree.undo_split() {
+            let settings = self.trainer.settings.clone();
+            let mut trainer =
+                Trainer { stage: settings.rule_splits + 1, round: 0, phase: Phase::Last, settings, tree };
+            self.place(&mut trainer);
+            let record = self.written(&trainer);
+            self.call(Call::Load(record));
+        }
     }
 
     pub fn some_splits(&mut self) -> usize {
@@ -236,7 +264,7 @@ impl Author {
             7 => phase = dice.pick(&[0, 3, 4, 8]),
             _ => {}
         }
-        let mut record = trainer.record();
+        let mut record = self.written(trainer);
         record.truncate(record.len() - TAIL);
         record.push(phase);
         record.extend(stage.to_be_bytes());
@@ -264,7 +292,7 @@ impl Author {
                         tree.mark(here);
                     }
                 }
-                Kind::Parent { child } => {
+                Kind::Parent { child, .. } => {
                     let new = tree.nodes.len();
                     tree.split(here).expect("a leaf, and room");
                     open.extend((0..8).map(|c| (child + c, new + c)));

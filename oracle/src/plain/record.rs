@@ -2,7 +2,9 @@
 
 use super::{Action, Phase, Refused, Settings, Trainer, Tree, NAN};
 
-const VERSION: u8 = 1;
+/// The version that is saved, with every node; the first has the leaves alone.
+const VERSION: u8 = 2;
+const FIRST: u8 = 1;
 const LONGEST: usize = 16_384;
 const NONE_KEPT: u16 = 65_535;
 
@@ -62,8 +64,17 @@ impl Fields<'_> {
 
 impl Trainer {
     pub fn record(&self) -> Vec<u8> {
+        self.record_in(VERSION)
+    }
+
+    /// The record as version 1 had it: what parents hold is not in it.
+    pub fn first_record(&self) -> Vec<u8> {
+        self.record_in(FIRST)
+    }
+
+    fn record_in(&self, version: u8) -> Vec<u8> {
         let mut out = vec![0; 4];
-        out.push(VERSION);
+        out.push(version);
         let settings = &self.settings;
         for number in [settings.rule_splits, settings.rounds, settings.multiplier] {
             out.extend(number.to_be_bytes());
@@ -78,9 +89,12 @@ impl Trainer {
         for node in &self.tree.splits {
             out.extend((*node as u16).to_be_bytes());
         }
-        for (_, action, mark) in self.tree.leaves() {
-            put_action(&mut out, &action);
-            out.push(u8::from(mark));
+        for node in 0..self.tree.nodes.len() {
+            if version != FIRST || self.tree.leaf(node).is_ok() {
+                let (action, mark) = self.tree.held(node);
+                put_action(&mut out, &action);
+                out.push(u8::from(mark));
+            }
         }
         out.push(self.phase.number());
         out.extend(self.stage.to_be_bytes());
@@ -110,12 +124,12 @@ impl Trainer {
             return Err(6);
         }
         let (version, body) = body.split_first().ok_or(7u32)?;
-        if *version != VERSION {
+        if !(FIRST..=VERSION).contains(version) {
             return Err(7);
         }
         let mut fields = Fields(body);
         let settings = Self::load_settings(&mut fields)?;
-        let tree = Self::load_tree(&mut fields, &settings)?;
+        let tree = Self::load_tree(&mut fields, &settings, *version)?;
         let trainer = Self::load_phase(&mut fields, settings, tree)?;
         if fields.0.is_empty() {
             Ok(trainer)
@@ -140,19 +154,17 @@ impl Trainer {
         Ok(settings)
     }
 
-    fn load_tree(fields: &mut Fields, settings: &Settings) -> Result<Tree, Refused> {
+    /// Where parents are not written, they hold the default action, unmarked, as the splits left them.
+    fn load_tree(fields: &mut Fields, settings: &Settings, version: u8) -> Result<Tree, Refused> {
         let mut tree = Tree::new(settings.default);
         for _ in 0..fields.u16()? {
             let node = fields.u16()?;
             tree.split(node as usize).map_err(|_| 8u32)?;
         }
         for node in 0..tree.nodes.len() {
-            if tree.leaf(node).is_ok() {
+            if version != FIRST || tree.leaf(node).is_ok() {
                 let action = fields.action()?;
-                tree.set_action(node, action);
-                if flag(fields.u8()?)? {
-                    tree.mark(node);
-                }
+                tree.hold(node, (action, flag(fields.u8()?)?));
             }
         }
         Ok(tree)

@@ -9,9 +9,11 @@ pub enum Kind {
         action: Action,
         mark: bool,
     },
-    /// The number of the first of its eight children.
+    /// The number of the first of its eight children, and the action and mark that it had when split.
     Parent {
         child: usize,
+        action: Action,
+        mark: bool,
     },
 }
 
@@ -55,7 +57,7 @@ impl Tree {
             return None;
         }
         let mut node = 0;
-        while let Kind::Parent { child } = self.nodes[node].kind {
+        while let Kind::Parent { child, .. } = self.nodes[node].kind {
             node = (child..child + 8).find(|&c| self.nodes[c].cube.contains(point))?;
         }
         Some(node)
@@ -79,7 +81,7 @@ impl Tree {
     }
 
     pub fn split(&mut self, node: usize) -> Result<(), Refused> {
-        let (action, _) = self.leaf(node)?;
+        let (action, mark) = self.leaf(node)?;
         if self.splits.len() == SPLITS {
             return Err(20);
         }
@@ -88,9 +90,33 @@ impl Tree {
             let kind = Kind::Leaf { action, mark: false };
             self.nodes.push(Node { cube, kind });
         }
-        self.nodes[node].kind = Kind::Parent { child };
+        self.nodes[node].kind = Kind::Parent { child, action, mark };
         self.splits.push(node);
         Ok(())
+    }
+
+    /// The newest split taken back: its node is the leaf that it was.
+    pub fn undo_split(&self) -> Result<Tree, Refused> {
+        let mut tree = self.clone();
+        let node = tree.splits.pop().ok_or(24u32)?;
+        let (action, mark) = tree.held(node);
+        tree.nodes.truncate(1 + 8 * tree.splits.len());
+        tree.nodes[node].kind = Kind::Leaf { action, mark };
+        Ok(tree)
+    }
+
+    /// What a node holds, leaf or parent.
+    pub fn held(&self, node: usize) -> (Action, bool) {
+        match self.nodes[node].kind {
+            Kind::Leaf { action, mark } | Kind::Parent { action, mark, .. } => (action, mark),
+        }
+    }
+
+    /// Sets what a node holds, leaf or parent.
+    pub fn hold(&mut self, node: usize, new: (Action, bool)) {
+        match &mut self.nodes[node].kind {
+            Kind::Leaf { action, mark } | Kind::Parent { action, mark, .. } => (*action, *mark) = new,
+        }
     }
 
     pub fn set_action(&mut self, leaf: usize, new: Action) {
@@ -176,7 +202,7 @@ impl Tree {
         same_cube
             && match (left.kind, right.kind) {
                 (Kind::Leaf { action: l, .. }, Kind::Leaf { action: r, .. }) => l.equal(&r),
-                (Kind::Parent { child: l }, Kind::Parent { child: r }) => {
+                (Kind::Parent { child: l, .. }, Kind::Parent { child: r, .. }) => {
                     (0..8).all(|c| self.equal_from(l + c, other, r + c))
                 }
                 _ => false,
