@@ -72,7 +72,7 @@ const EQUALS: usize = 500;
 
 /// Two trees of 64 splits that are equal, so that every node is compared.
 pub fn equality(table: &mut Table, tree: &Grown) {
-    let other: RuleTree = grow(&tree.trainer);
+    let other: RuleTree = grow(&tree.trainer.settings, &tree.trainer.tree);
     assert!(tree.original == other);
     assert_eq!(size(raw::equal(&tree.record, &tree.record)), 1);
     let times = alternate(

@@ -62,7 +62,7 @@ const NODE: usize = size_of::<RuleTreeNode>();
 const NUMBER: usize = size_of::<usize>();
 
 pub fn rows(table: &mut Table, tree: &Grown) {
-    let (original, full) = held(|| grow(&tree.trainer));
+    let (original, full) = held(|| grow(&tree.trainer.settings, &tree.trainer.tree));
     let nodes = original.field_nodes();
     let room = |node: &RuleTreeNode| match node {
         RuleTreeNode::Node { children, .. } => children.capacity(),

@@ -45,7 +45,7 @@ fn group(list: &mut Vec<u8>, kind: u8, numbers: impl ExactSizeIterator<Item = u6
 /// By the calls of the library, one list of counts or one row of scores a call. What each question was goes to
 /// `tell`, and the answers to `journal`.
 fn ours(settings: &[u8; 113], mut tell: impl FnMut(Told), mut journal: impl FnMut(&[u8])) -> Vec<u8> {
-    let (mut record, mut next) = (vec![0; 9708], vec![0; 9708]);
+    let (mut record, mut next) = (vec![0; 11_052], vec![0; 11_052]);
     let mut length = size(raw::start(settings, &mut record));
     let mut question = [0; 31];
     let mut row = vec![0; 20 * 4097];
@@ -85,8 +85,8 @@ fn ours(settings: &[u8; 113], mut tell: impl FnMut(Told), mut journal: impl FnMu
 }
 
 /// The same answers in one call.
-fn ours_at_once(settings: &[u8; 113], list: &[u8], record: &mut [u8; 9708]) -> usize {
-    let mut fresh = [0; 9708];
+fn ours_at_once(settings: &[u8; 113], list: &[u8], record: &mut [u8; 11_052]) -> usize {
+    let mut fresh = [0; 11_052];
     let length = size(raw::start(settings, &mut fresh));
     size(raw::answers(&fresh[..length], list, record))
 }
@@ -170,7 +170,7 @@ pub fn whole(table: &mut Table) {
     let of =
         |told: &(usize, u64, i32, u64)| score(told.0, f64::from_bits(told.1), told.2, f64::from_bits(told.3));
     let scores: Vec<f64> = asked.iter().flatten().map(of).collect();
-    let mut last = [0; 9708];
+    let mut last = [0; 11_052];
     assert_eq!(ours_at_once(&settings, &list, &mut last), record.len());
     assert_eq!(last[..record.len()], record, "the same record");
     same_tree(

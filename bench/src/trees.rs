@@ -55,7 +55,7 @@ fn grown(name: &'static str, split: impl Fn(&mut Tree), acks: Vec<(f64, f64)>) -
     }
     let mut depths = vec![0; tree.nodes.len()];
     for (node, parent) in tree.nodes.iter().enumerate() {
-        if let Kind::Parent { child } = parent.kind {
+        if let Kind::Parent { child, .. } = parent.kind {
             let depth = depths[node] + 1;
             depths[child..child + 8].fill(depth);
         }
@@ -63,9 +63,9 @@ fn grown(name: &'static str, split: impl Fn(&mut Tree), acks: Vec<(f64, f64)>) -
     let stage = settings.rule_splits + 1;
     let trainer = Trainer { settings, tree, stage, round: 0, phase: Phase::Done };
     let record = trainer.record();
-    let original = grow(&trainer);
+    let original = grow(&trainer.settings, &trainer.tree);
     same_tree("the grown tree", &original, &trainer.tree);
-    assert_eq!(record.len(), 9708);
+    assert_eq!(record.len(), 11_052);
     size(raw::question(&record, &mut [0; 31]));
     Grown { name, trainer, record, original, depths, acks }
 }

@@ -36,6 +36,8 @@ int main(void) {
     uint64_t size = knellstone_start(settings, sizeof settings, record, sizeof record);
     printf("record of %u bytes\n", (unsigned)size);
     printf("short buffer: refused %u\n", knellstone_refusal(knellstone_start(settings, sizeof settings, next, 171)));
+    printf("no split to take back: refused %u\n",
+           knellstone_refusal(knellstone_undo_split(record, size, next, sizeof next)));
     put(counts, 5, 8);
     size = knellstone_answer_counts(record, size, counts, sizeof counts, next, sizeof next);
     knellstone_question(next, size, question, sizeof question);

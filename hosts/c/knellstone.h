@@ -18,16 +18,16 @@ extern "C" {
 #define KNELLSTONE_REFUSED UINT64_C(0x8000000000000000)
 
 /* Sizes in bytes. */
-#define KNELLSTONE_SETTINGS 113     /* u32 rule_splits, rounds, multiplier; drill byte; five actions */
-#define KNELLSTONE_ACTION 20        /* multiplier 8, increment 4, delay 8 */
-#define KNELLSTONE_POINT 24         /* ack, send, ratio */
-#define KNELLSTONE_FOUND 21         /* 1 and an action, or zeros */
-#define KNELLSTONE_QUESTION 31      /* kind (1 counts, 2 score, 3 done), u16 leaf, action, progress */
-#define KNELLSTONE_RECORD_MOST 9708 /* a record of 64 splits */
-#define KNELLSTONE_MODE 9           /* 0 off, 1 always, 2 lo..=hi; u32 lo, u32 hi */
-#define KNELLSTONE_SENDER 108       /* docs/HOSTS.md has its layout */
-#define KNELLSTONE_EVENT 22         /* 0 ack, 1 send, 2 tick; sent 8, received 8; draw flag, u32 draw */
-#define KNELLSTONE_REPLY 5          /* refusal's number or 0, u32 window */
+#define KNELLSTONE_SETTINGS 113      /* u32 rule_splits, rounds, multiplier; drill byte; five actions */
+#define KNELLSTONE_ACTION 20         /* multiplier 8, increment 4, delay 8 */
+#define KNELLSTONE_POINT 24          /* ack, send, ratio */
+#define KNELLSTONE_FOUND 21          /* 1 and an action, or zeros */
+#define KNELLSTONE_QUESTION 31       /* kind (1 counts, 2 score, 3 done), u16 leaf, action, progress */
+#define KNELLSTONE_RECORD_MOST 11052 /* a record of 64 splits */
+#define KNELLSTONE_MODE 9            /* 0 off, 1 always, 2 lo..=hi; u32 lo, u32 hi */
+#define KNELLSTONE_SENDER 108        /* docs/HOSTS.md has its layout */
+#define KNELLSTONE_EVENT 22          /* 0 ack, 1 send, 2 tick; sent 8, received 8; draw flag, u32 draw */
+#define KNELLSTONE_REPLY 5           /* refusal's number or 0, u32 window */
 
 /* The number of the refusal, or 0. */
 static inline uint32_t knellstone_refusal(uint64_t answer) {
@@ -50,7 +50,8 @@ uint64_t knellstone_answer_score(const uint8_t *record, size_t record_len, uint6
 
 /* Answers in turn, in one call, and writes the record after the last. The list is of groups: 1 and counts or 2 and
  * scores, how many of them in 2 bytes, then 8 bytes each. All are taken, or the call is refused for the first that is
- * not. 6, 7, 8, then 6 for a group that is cut or of another kind, 21, 4, 20, then 9 */
+ * not. With an empty list the record is written again: one of version 1 as version 2. 6, 7, 8, then 6 for a group that
+ * is cut or of another kind, 21, 4, 20, then 9 */
 uint64_t knellstone_answers(const uint8_t *record, size_t record_len, const uint8_t *list, size_t list_len,
                             uint8_t *next, size_t next_len);
 
@@ -65,6 +66,11 @@ uint64_t knellstone_candidates(const uint8_t *settings, size_t settings_len, con
 
 /* 1 where the trees of two records are equal, else 0. 6, 7, 8 of the first, then of the second */
 uint64_t knellstone_equal(const uint8_t *a, size_t a_len, const uint8_t *b, size_t b_len);
+
+/* Takes the newest split of the record's tree back, and writes the record of the trainer that is left: the split's
+ * parent is a leaf again, with the action and mark that it had. 6, 7, 8, 24 where no split was made, 3 where the leaf
+ * whose score is asked for is one of those that go, 9 */
+uint64_t knellstone_undo_split(const uint8_t *record, size_t record_len, uint8_t *next, size_t next_len);
 
 /* Looks many points up in the record's tree: KNELLSTONE_FOUND bytes each. 6, 7, 8, 6, 9 */
 uint64_t knellstone_lookup(const uint8_t *record, size_t record_len, const uint8_t *points, size_t points_len,

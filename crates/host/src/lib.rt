@@ -6,6 +6,7 @@ ghost use Rattle.panel_lines.specs.Panel.{panelOf, outAfter};
 ghost use Rattle.host_trainer.specs.Records.{startIn, scoreAnswered, countsAnswered, writtenOf, recordAfter};
 ghost use Rattle.host_trainer.specs.Questions.{askedIn, askedAfter};
 ghost use Rattle.host_trainer.specs.Lookups.{lookups, lookupsAfter, replaced, replacedAfter};
+ghost use Rattle.host_trainer.specs.Undone.{undoneIn};
 ghost use Rattle.host_lists.specs.Lists.{candidatesIn, candidatesAfter, rowIn, rowAfter, equalIn};
 ghost use Rattle.host_answers.specs.Answers.{answersIn};
 ghost use Rattle.host_sender.specs.Layout.{newIn, newAfter};
@@ -65,6 +66,15 @@ pub extern "C" fn knellstone_answer_score(held: &[u8], bits: u64, out: &mut [u8]
     ensures { λ r. ⌜ (r ≡ answerOf (writtenOf (scoreAnswered (now (held .entry)) bits) (now (out .entry)))) × (now (out .exit) ≡ recordAfter (scoreAnswered (now (held .entry)) bits) (now (out .entry))) ⌝ }
 {
     let s = host_trainer::answer_score(held, bits, out);
+    answer(s)
+}
+
+// Takes the newest split of the record's tree back, and writes the record of what is left.
+#[no_mangle]
+pub extern "C" fn knellstone_undo_split(held: &[u8], out: &mut [u8]) -> u64
+    ensures { λ r. ⌜ (r ≡ answerOf (writtenOf (undoneIn (now (held .entry))) (now (out .entry)))) × (now (out .exit) ≡ recordAfter (undoneIn (now (held .entry))) (now (out .entry))) ⌝ }
+{
+    let s = host_trainer::undo_split(held, out);
     answer(s)
 }
 

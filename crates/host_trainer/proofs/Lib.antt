@@ -5,3 +5,5 @@ pub mod SpotWays
 pub mod TreesFit
 pub mod StepsFit
 pub mod Runs
+pub mod UndoWays
+pub mod UndoLaws

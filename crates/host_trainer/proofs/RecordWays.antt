@@ -61,11 +61,11 @@ module _ (bytes : List ℕ) {r : Answered} where
       rw (eq-eqb (length bytes) 113 long, d) q
 
 -- ---- what is done to the trainer of a record
-on-taken : (a : Answered) (f : Trainer → Answered) → a .refused ≡ 0 → f (a .trainer) ≡ onTrainer a f
+pub on-taken : (a : Answered) (f : Trainer → Answered) → a .refused ≡ 0 → f (a .trainer) ≡ onTrainer a f
 unfolding onTrainer
 on-taken a f e = rw (eq-eqb (a .refused) 0 e)
 
-on-refused : (a : Answered) (f : Trainer → Answered) → (a .refused ≡ 0 → ⊥) → a ≡ onTrainer a f
+pub on-refused : (a : Answered) (f : Trainer → Answered) → (a .refused ≡ 0 → ⊥) → a ≡ onTrainer a f
 unfolding onTrainer
 on-refused a f n = rw (ne-eqb (a .refused) 0 n)
 

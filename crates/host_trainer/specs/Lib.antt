@@ -3,3 +3,4 @@ pub mod Questions
 pub mod Lookups
 pub mod Parts
 pub mod Runs
+pub mod Undone

@@ -2,3 +2,4 @@
 pub mod lookups;
 pub mod questions;
 pub mod records;
+pub mod undo;

@@ -3,9 +3,11 @@ ghost use mathlib.Core.Path.{_≡_};
 ghost use Rattle.host_trainer.specs.Records.{startIn, scoreAnswered, countsAnswered, writtenOf, recordAfter};
 ghost use Rattle.host_trainer.specs.Questions.{askedIn, askedAfter};
 ghost use Rattle.host_trainer.specs.Lookups.{lookups, lookupsAfter, replaced, replacedAfter};
+ghost use Rattle.host_trainer.specs.Undone.{undoneIn};
 use crate::inner::lookups;
 use crate::inner::questions;
 use crate::inner::records;
+use crate::inner::undo;
 use record::Saved;
 
 pub mod inner;
@@ -38,6 +40,14 @@ pub fn answer_score(held: &[u8], bits: u64, out: &mut [u8]) -> Saved
     ensures { λ r. ⌜ (r ≡ writtenOf (scoreAnswered (now (held .entry)) bits) (now (out .entry))) × (now (out .exit) ≡ recordAfter (scoreAnswered (now (held .entry)) bits) (now (out .entry))) ⌝ }
 {
     let a = records::scored(held, bits);
+    records::written(a, out)
+}
+
+// The record with the newest split of its tree taken back.
+pub fn undo_split(held: &[u8], out: &mut [u8]) -> Saved
+    ensures { λ r. ⌜ (r ≡ writtenOf (undoneIn (now (held .entry))) (now (out .entry))) × (now (out .exit) ≡ recordAfter (undoneIn (now (held .entry))) (now (out .entry))) ⌝ }
+{
+    let a = undo::undone(held);
     records::written(a, out)
 }
 

@@ -38,6 +38,7 @@ impl fmt::Display for Refusal {
             21 => "another kind of answer than was asked for, or training is done",
             22 => "no rule for this ack",
             23 => "a total that is full",
+            24 => "no split to take back",
             _ => "an unknown refusal",
         };
         write!(f, "refused {}: {}", self.0, words)
@@ -170,7 +171,7 @@ pub struct Trainer {
     record: Vec<u8>,
 }
 
-const RECORD_MOST: usize = 9708;
+const RECORD_MOST: usize = 11_052;
 const CANDIDATES_MOST: usize = 4096;
 const GROUP_MOST: usize = 65535;
 
@@ -184,9 +185,9 @@ impl Trainer {
         written(RECORD_MOST, |out| raw::start(settings, out)).map(|record| Trainer { record })
     }
 
-    /// The trainer whose record these bytes are.
+    /// The trainer whose record these bytes are; one of version 1 is kept as version 2.
     pub fn load(record: &[u8]) -> Result<Self, Refusal> {
-        written(31, |out| raw::question(record, out)).map(|_| Trainer { record: record.to_vec() })
+        written(RECORD_MOST, |out| raw::answers(record, &[], out)).map(|record| Trainer { record })
     }
 
     pub fn record(&self) -> &[u8] {
@@ -249,6 +250,13 @@ impl Trainer {
     /// Answers in the bytes that docs/HOSTS.md lays out.
     pub fn answer_list(&mut self, list: &[u8]) -> Result<(), Refusal> {
         self.record = written(RECORD_MOST, |out| raw::answers(&self.record, list, out))?;
+        Ok(())
+    }
+
+    /// Takes the newest split of its tree back: the split's parent is a leaf again, with the action and mark that it had.
+    /// Refused where no split was made, and where the leaf whose score is asked for is one of those that go.
+    pub fn undo_split(&mut self) -> Result<(), Refusal> {
+        self.record = written(RECORD_MOST, |out| raw::undo_split(&self.record, out))?;
         Ok(())
     }
 

@@ -103,12 +103,52 @@ fn records() {
     assert_eq!(Trainer::load(&[]), Err(Refusal(6)));
     assert_eq!(Trainer::load(&trainer.record()[..171]), Err(Refusal(6)));
     let mut version = trainer.record().to_vec();
-    version[4] = 2;
+    version[4] = 3;
     assert_eq!(Trainer::load(&version), Err(Refusal(7)));
+    version[4] = 1;
+    assert_eq!(Trainer::load(&version).as_ref(), Ok(&trainer), "a fresh record of version 1 is kept as version 2");
     let mut phase = trainer.record().to_vec();
     phase[141] = 9;
     assert_eq!(Trainer::load(&phase), Err(Refusal(8)));
     assert_eq!(Trainer::load(trainer.record()), Ok(trainer));
+}
+
+#[test]
+fn splits_taken_back() {
+    let settings = Settings { rule_splits: 2, rounds: 0, drill: false, ..Settings::default() };
+    let mut trainer = Trainer::start(&settings).unwrap();
+    let fresh = trainer.clone();
+    assert_eq!(trainer.undo_split(), Err(Refusal(24)));
+    assert_eq!(trainer, fresh);
+    trainer.answer_counts(&[5]).unwrap();
+    let once = trainer.clone();
+    trainer.answer_counts(&[0, 0, 0, 5, 0, 0, 0, 0, 0]).unwrap();
+    assert_eq!(trainer.nodes(), 17);
+    trainer.undo_split().unwrap();
+    assert_eq!(trainer.nodes(), 9);
+    assert!(trainer.same_tree(&once));
+    trainer.undo_split().unwrap();
+    assert!(trainer.same_tree(&fresh));
+    assert_eq!(trainer.undo_split(), Err(Refusal(24)));
+}
+
+#[test]
+fn the_leaf_that_is_asked_for_stays() {
+    let none = Action::new(0.0, 0, 0.0);
+    let settings = Settings { rule_splits: 1, rounds: 1, drill: false, max_change: none, ..Settings::default() };
+    let mut trainer = Trainer::start(&settings).unwrap();
+    trainer.answer(&[Answer::Counts(vec![5]), Answer::Scores(vec![1.0])]).unwrap();
+    trainer.answer(&[Answer::Counts(vec![5]), Answer::Counts(vec![5])]).unwrap();
+    assert_eq!(trainer.nodes(), 9);
+    let mut undone = trainer.clone();
+    undone.undo_split().unwrap();
+    // The root was marked when it was tuned, its marks were cleared, and it kept none when it was split.
+    assert_eq!(undone.record()[140], 0);
+    trainer.answer_counts(&[0, 0, 0, 5, 0, 0, 0, 0, 0]).unwrap();
+    assert!(matches!(trainer.question(), Question::Score { leaf: 3, .. }));
+    let asking = trainer.clone();
+    assert_eq!(trainer.undo_split(), Err(Refusal(3)));
+    assert_eq!(trainer, asking);
 }
 
 #[test]

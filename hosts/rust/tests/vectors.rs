@@ -1,5 +1,5 @@
 //! The host library answers the stored scripts with the lines that the originals gave (vectors/README.md).
-//! Lines of calls that the library doesn't have (wakes, tallies, tree prints) are passed over.
+//! Lines of calls that the library doesn't have (wakes, tallies) are passed over, and of a tree's lines the cubes.
 
 use knellstone::{Action, Event, Point, Question, Refusal, Sender, Trainer};
 use std::{fs, path::Path};
@@ -82,10 +82,27 @@ fn sender_line(s: &Sender) -> String {
     )
 }
 
-/// The lines that a call gives, or that they are passed over.
+/// The lines that a call gives, the lines of a trainer's tree, or that they are passed over.
 enum Gives {
     Lines(Vec<String>),
+    Tree(Trainer),
     Passes,
+}
+
+/// Each node of a record's tree, without its cube.
+fn nodes(record: &[u8]) -> Vec<String> {
+    let short = |at: usize| usize::from(u16::from_be_bytes([record[at], record[at + 1]]));
+    let splits = short(118);
+    let node = |i: usize| {
+        let at = 120 + 2 * splits + 21 * i;
+        let action = Action::from_bytes(record[at..at + 20].try_into().unwrap());
+        let kind = match (0..splits).find(|k| short(120 + 2 * k) == i) {
+            Some(k) => format!("parent {}", 8 * k + 1),
+            None => "leaf".into(),
+        };
+        format!("{i} {kind} {} {} ", record[at + 20], shown(action))
+    };
+    (0..1 + 8 * splits).map(node).collect()
 }
 
 fn call(script: &mut Script, trainer: &mut Trainer, sender: &mut Sender) -> Result<Gives, Bad> {
@@ -166,7 +183,15 @@ fn call(script: &mut Script, trainer: &mut Trainer, sender: &mut Sender) -> Resu
         }
         7 => script.take(8).map(|_| Gives::Passes)?,
         10 => script.take(24).map(|_| Gives::Passes)?,
-        12 => Gives::Passes,
+        12 => Gives::Tree(trainer.clone()),
+        17 => {
+            let mut copy = trainer.clone();
+            match copy.undo_split() {
+                Ok(()) => Gives::Tree(copy),
+                Err(Refusal(3)) => Gives::Passes,
+                Err(r) => Gives::Lines(vec![refused(r)]),
+            }
+        }
         _ => return Err(Bad),
     })
 }
@@ -181,6 +206,15 @@ impl Lines<'_> {
     fn expect(&mut self, ours: &str) {
         assert_eq!(self.left.next(), Some(ours), "{}", self.name);
         self.compared += 1;
+    }
+
+    fn expect_tree(&mut self, ours: &[String]) {
+        self.expect(&format!("tree {}", ours.len()));
+        for node in ours {
+            let line = self.left.next().unwrap_or_default();
+            assert!(line.starts_with(node.as_str()), "{}: {line} is not {node}", self.name);
+            self.compared += 1;
+        }
     }
 
     /// A line, and where it tells of a tree's nodes, a line for each.
@@ -208,6 +242,7 @@ fn replay(bytes: &[u8], lines: &mut Lines) {
     while script.at < bytes.len() {
         match call(&mut script, &mut trainer, &mut sender) {
             Ok(Gives::Lines(ours)) => ours.iter().for_each(|line| lines.expect(line)),
+            Ok(Gives::Tree(of)) => lines.expect_tree(&nodes(of.record())),
             Ok(Gives::Passes) => lines.pass(),
             Err(Bad) => return lines.expect("bad script"),
         }
