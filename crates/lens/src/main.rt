@@ -44,7 +44,7 @@ fn place(ack: f64, send: f64, ratio: f64) {
 fn moment(value: f64) {
     match quantities::admit(value) {
         Admitted::At(t) => {
-            let bits = floats::to_bits(t.since_start().0);
+            let bits = floats::to_bits(t.held());
             io::write_all(STDOUT_FILENO, b"moment ");
             io::print_hex(STDOUT_FILENO, bits, 16);
         }

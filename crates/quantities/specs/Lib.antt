@@ -1,2 +1,1 @@
 pub mod Time
-pub mod Guards

@@ -2,6 +2,7 @@
 use mathlib.Core.Bool.{Bool, false, _&&_, cond}
 use lib.IntN.{pos}
 use lib.Ieee.{Float, fin, binary64, add, sub, mul, div, le, lt, eq}
+use Rattle.refusal.specs.Numbers.{notAdmitted}
 use Rattle.quantities.specs.declared.TimeSpan.{TimeSpan}
 use Rattle.quantities.specs.declared.Time.{Time}
 use Rattle.quantities.specs.declared.Admitted.{Admitted}
@@ -26,6 +27,9 @@ scaled k a = span (mul binary64 k (a .0))
 abbrev pub ratioOf : TimeSpan → TimeSpan → Float
 ratioOf a b = div binary64 (a .0) (b .0)
 
+abbrev pub shorter : TimeSpan → TimeSpan → Bool
+shorter a b = lt (a .0) (b .0)
+
 -- "Moment minus moment is a span"
 abbrev pub between : Time → Time → TimeSpan
 between t earlier = span (sub binary64 (t .0) (earlier .0))
@@ -47,4 +51,4 @@ readMoment x = cond (eq x (fin false 0 (pos 0))) (fin false 0 (pos 0)) x
 
 -- refusal 1: "moment not admitted"
 unfoldable pub admitOf : Float → Admitted
-admitOf x = cond (admitted x) (At (moment (readMoment x))) (Refused 1)
+admitOf x = cond (admitted x) (At (moment (readMoment x))) (Refused notAdmitted)

@@ -1,19 +1,14 @@
 // Moments and spans of time, in seconds, with only the operations that have a meaning.
 ghost use mathlib.Core.Path.{_≡_};
 ghost use lib.Ieee.{binary64, div};
-ghost use Rattle.quantities.specs.Time.{span, sumOf, scaled, ratioOf, thousand, between, moved, laterOf, admitOf, moment};
+ghost use Rattle.quantities.specs.Time.{span, sumOf, scaled, ratioOf, shorter, thousand, between, moved, laterOf, admitOf, moment};
 
 // A span of time, in seconds.
 pub struct TimeSpan(pub f64);
 
-// A moment, in seconds from the start. Its number is private: two moments have a difference, and no sum.
+// A moment, in seconds from the start. Its number is private: two moments have a difference and a later one, and no sum.
+// It is made by admitting a number, by moving a moment by a span, or by restoring one that was held.
 pub struct Time(f64);
-
-pub fn seconds(value: f64) -> TimeSpan
-    ensures { λ r. ⌜ r ≡ span value ⌝ }
-{
-    TimeSpan(value)
-}
 
 pub fn milliseconds(value: f64) -> TimeSpan
     ensures { λ r. ⌜ r ≡ span (div binary64 value thousand) ⌝ }
@@ -40,20 +35,27 @@ impl TimeSpan {
     {
         self.0 / other.0
     }
+
+    pub fn shorter_than(self, other: TimeSpan) -> bool
+        ensures { λ r. ⌜ r ≡ shorter self other ⌝ }
+    {
+        self.0 < other.0
+    }
 }
 
 impl Time {
-    // The moment that lies a span after the start.
-    pub fn from_start(at: TimeSpan) -> Time
-        ensures { λ r. ⌜ r ≡ moment (at .0) ⌝ }
+    // A moment of a sender that is handed in: the number that `held` gave out, not admitted anew.
+    pub fn restored(held: f64) -> Time
+        ensures { λ r. ⌜ r ≡ moment held ⌝ }
     {
-        Time(at.0)
+        Time(held)
     }
 
-    pub fn since_start(self) -> TimeSpan
-        ensures { λ r. ⌜ r ≡ span (self .0) ⌝ }
+    // Its number, for a sender that is handed out, or to be shown.
+    pub fn held(self) -> f64
+        ensures { λ r. ⌜ r ≡ self .0 ⌝ }
     {
-        TimeSpan(self.0)
+        self.0
     }
 
     pub fn since(self, earlier: Time) -> TimeSpan
@@ -93,5 +95,5 @@ pub fn admit(value: f64) -> Admitted
             return Admitted::At(Time(value));
         }
     }
-    Admitted::Refused(1)
+    Admitted::Refused(refusal::NOT_ADMITTED)
 }

@@ -3,3 +3,5 @@ pub mod Window
 pub mod Partition
 pub mod Lens
 pub mod Paper
+pub mod Ends
+pub mod Chains

@@ -4,9 +4,8 @@ use mathlib.Core.Path.{_≡_, refl, sym, ap, _∙_, subst}
 use mathlib.Core.Bool.{Bool, true, false, not, _&&_}
 use Prim.Native.Nat.{ℕ, zero, suc, _/_, _%_, _<_}
 use native.Mathlib.Omega.{arith}
-use lib.IntN.{pos}
 use lib.Dec.{T, eqb, not-T, lit<}
-use lib.Ieee.{Float, fin, add, le, fits}
+use lib.Ieee.{Float, add, le, fits}
 use lib.Ieee.Bits.{is-true, is-false}
 use lib.Ieee.Fits.{and-l, and-r, and-i}
 use denote.Floats.{passes}
@@ -15,14 +14,11 @@ use Rattle.floats.proofs.Interval.{middle-between, upper-half, lower-half, cut-
 use Rattle.remy.specs.declared.point.Point.{Point}
 use Rattle.remy.specs.declared.cube.Cube.{Cube}
 use Rattle.remy.specs.declared.cube.Ends.{Ends}
-use Rattle.remy.specs.Cube.{ack, send, ratio, usualEnds, rootOf, containsOf, middleOf, halfOf, halfCube, numberOf, childCube, placeOf, towardOf, Axis, Whole}
+use Rattle.remy.specs.Cube.{ack, send, ratio, rootOf, containsOf, middleOf, halfOf, halfCube, numberOf, childCube, placeOf, towardOf, Axis, Whole}
 use Rattle.remy.specs.Cube as cubes
-use Rattle.remy.proofs.Halves as halves
+pub use Rattle.remy.proofs.Halves.{child-number}
 
 -- ---- the child that a number names
-pub child-number : (c : Cube) (a s r : Bool) → childCube c (numberOf a s r) ≡ halfCube c (middleOf c) a s r
-child-number c a s r = halves.child-number c a s r
-
 pub toward-cube : (c : Cube) (p : Point)
     → towardOf c p .cube ≡ halfCube c (middleOf c) (le (ack (middleOf c)) (ack p)) (le (send (middleOf c)) (send p)) (le (ratio (middleOf c)) (ratio p))
 unfolding towardOf
@@ -87,17 +83,6 @@ whole-root e a s r = record {
   sends = record { from = zero-end; to = s; ordered = s .least };
   ratios = record { from = zero-end; to = r; ordered = r .least };
 }
-
-pub end-600 : End (fin false 75 (pos 3))
-unfolding fits le add
-end-600 = record { fitting = tt; least = tt; double = tt }
-
-pub end-1000 : End (fin false 125 (pos 3))
-unfolding fits le add
-end-1000 = record { fitting = tt; least = tt; double = tt }
-
-pub whole-usual : Whole (rootOf usualEnds)
-whole-usual = whole-root usualEnds end-600 end-600 end-1000
 
 -- ---- the three axes
 split-all : (c : Cube) (p : Point) → T (containsOf c p)

@@ -4,7 +4,7 @@ use mathlib.Core.List.{List, [], _∷_}
 use Prim.Native.Nat.{ℕ, _+_, _*_, _/_, _%_, _<_}
 use lib.Dec.{T, eqb}
 use lib.IntN.{pos}
-use lib.Ieee.{Float, fin, le}
+use lib.Ieee.{Float, fin, eq, le}
 use Rattle.floats.specs.Interval.{within, middle, End}
 use Rattle.remy.specs.declared.point.Point.{Point}
 use Rattle.remy.specs.declared.cube.Cube.{Cube}
@@ -31,6 +31,22 @@ zero = fin false 0 (pos 0)
 -- "Root: 0 to 600 s, 0 to 600 s, 0 to 1000": the upper ends, 600 = 75 * 2 ^ 3 and 1000 = 125 * 2 ^ 3
 abbrev pub usualEnds : Point
 usualEnds = pointOf (fin false 75 (pos 3)) (fin false 75 (pos 3)) (fin false 125 (pos 3))
+
+-- upper ends that a box may have: "each from 1 to 1,000,000", which is 15625 * 2 ^ 6
+abbrev pub leastEnd : Float
+leastEnd = fin false 1 (pos 0)
+
+abbrev pub mostEnd : Float
+mostEnd = fin false 15625 (pos 6)
+
+abbrev pub endAdmitted : Float → Bool
+endAdmitted x = le leastEnd x && le x mostEnd
+
+unfoldable pub endsAdmitted : Point → Bool
+endsAdmitted e = endAdmitted (ack e) && (endAdmitted (send e) && endAdmitted (ratio e))
+
+unfoldable pub pointEqual : Point → Point → Bool
+pointEqual p q = eq (ack p) (ack q) && (eq (send p) (send q) && eq (ratio p) (ratio q))
 
 abbrev pub rootOf : Point → Cube
 rootOf ends = record { min = pointOf zero zero zero; max = ends }

@@ -1,6 +1,6 @@
 // A point of a sender's memory.
 ghost use mathlib.Core.Path.{_≡_};
-ghost use Rattle.remy.specs.Cube.{usualEnds, pointOf};
+ghost use Rattle.remy.specs.Cube.{usualEnds, pointOf, pointEqual};
 use quantities::TimeSpan;
 
 pub struct Point {
@@ -25,5 +25,17 @@ impl Point {
         ensures { λ r. ⌜ r ≡ usualEnds ⌝ }
     {
         Point::new(600.0, 600.0, 1000.0)
+    }
+
+    // Equal on each axis.
+    pub fn equals(self, other: Point) -> bool
+        ensures { λ r. ⌜ r ≡ pointEqual self other ⌝ }
+    {
+        if self.ack_ewma.0 == other.ack_ewma.0 {
+            if self.send_ewma.0 == other.send_ewma.0 {
+                return self.rtt_ratio == other.rtt_ratio;
+            }
+        }
+        false
     }
 }

@@ -12,13 +12,15 @@ use lib.ListN.{length, getD, set, take, drop, replicate, drop-of-length-le}
 use lib.Seq.{take-all}
 use Rattle.remy.specs.declared.action.Action.{Action}
 use Rattle.remy.specs.declared.point.Point.{Point}
+use Rattle.remy.specs.Cube.{pointOf}
+use Rattle.remy.specs.Cube as cube
 use Rattle.rule_tree.specs.declared.Node.{Node}
 use Rattle.rule_tree.specs.declared.RuleTree.{RuleTree}
 use Rattle.rule_tree.specs.Lists.{fill}
 use Rattle.rule_tree.specs.Nodes.{noNode, nodeAt, isLeaf, nodeCount, noAction, leafWith, linkedTo, childrenOf}
 use Rattle.rule_tree.specs.Cubes.{ownerBelow, splitNodes}
 use Rattle.rule_tree.specs.Change.{freshTree, withNodes, unmarkedNode, withoutMarks, splitAt, newestParent, undone}
-use Rattle.rule_tree.specs.Calls.{leafIn}
+use Rattle.rule_tree.specs.Calls.{leafIn, blankTree}
 use Rattle.rule_tree.proofs.Lists.{getD-tabulate}
 use Rattle.rule_tree.proofs.Owners.{owner-found}
 
@@ -54,6 +56,9 @@ pub fresh-made :
     (e : Point) (a none : Action) → none ≡ noAction
     → _≡_ {A = RuleTree} (record { nodes = set (replicate 513 (leafWith none)) 0 (leafWith a); splits = 0; ends = e }) (freshTree e a)
 fresh-made e a none p = ap (λ (x : Action). record { nodes = set (replicate 513 (leafWith x)) 0 (leafWith a); splits = 0; ends = e }) p
+
+pub blank-made : (e : Point) (none : Action) (t : RuleTree) → e ≡ pointOf cube.zero cube.zero cube.zero → none ≡ noAction → t ≡ freshTree e none → t ≡ blankTree
+blank-made e none t p q h = h ∙ (λ j. freshTree (p j) (q j))
 
 pub unmarked-leaf : (x : Node) → x .children ≡ 0 → _≡_ {A = Node} (record { action = x .action; children = x .children; optimized = false }) (unmarkedNode x)
 unfolding unmarkedNode

@@ -15,17 +15,18 @@ use mir.Val.{ofZ}
 use Rattle.remy.specs.declared.action.Action.{Action}
 use Rattle.remy.specs.declared.point.Point.{Point}
 use Rattle.remy.specs.Action.{validOf}
-use Rattle.remy.specs.Cube.{usualEnds}
+use Rattle.remy.specs.Cube.{usualEnds, pointEqual}
 use Rattle.rule_tree.specs.declared.Node.{Node}
 use Rattle.rule_tree.specs.declared.RuleTree.{RuleTree}
 use Rattle.rule_tree.specs.Lists.{occurrences, fill}
-use Rattle.rule_tree.specs.Nodes.{noNode, nodeAt, isLeaf, nodeCount, noAction, leafWith, linkedTo, blankNode, childrenOf}
+use Rattle.rule_tree.specs.Nodes.{noNode, nodeAt, isLeaf, nodeCount, leafWith, linkedTo, blankNode, childrenOf}
 use Rattle.rule_tree.specs.Grown.{linkHolds, plainOf, slotHolds, endsHold, grownOf}
 use Rattle.rule_tree.specs.Change.{freshTree, withNodes, withAction, withMark, unmarkedNode, withoutMarks, splitAt}
-use Rattle.rule_tree.specs.Calls.{leafIn, blankTree}
+use Rattle.rule_tree.specs.Calls.{leafIn}
 use Rattle.rule_tree.proofs.Lists.{length-fill, getD-fill, getD-fill-other}
 use Rattle.rule_tree.proofs.ChangeWays.{unmarked-leaf}
-use Rattle.rule_tree.proofs.GrownTree.{Grown, Parent, child-at, grown-facts, facts-grown, grown-long, link-none, link-from, link-more, link-parts, slot-used, slot-unused, leaf-below, leaf-childless, leaf-valid, unused-childless}
+use Rattle.rule_tree.proofs.Links.{link-more}
+use Rattle.rule_tree.proofs.GrownTree.{Grown, Parent, child-at, grown-facts, facts-grown, grown-long, link-none, link-from, link-parts, slot-used, slot-unused, leaf-below, leaf-childless, leaf-valid, unused-childless}
 
 same-or : (i j : ℕ) → (i ≡ j) ⊎ (i ≢ j)
 same-or i j = go (eqb i j) refl
@@ -228,16 +229,9 @@ fresh-facts e a v h =
 pub fresh-grown : (e : Point) (a : Action) → validOf a ≡ true → endsHold e ≡ true → grownOf (freshTree e a) ≡ true
 fresh-grown e a v h = facts-grown (freshTree e a) (fresh-facts e a v h)
 
-none-valid : validOf noAction ≡ true
-unfolding validOf
-none-valid = refl
-
 pub usual-ends : endsHold usualEnds ≡ true
-unfolding endsHold eq
+unfolding endsHold pointEqual eq
 usual-ends = refl
-
-pub blank-grown : grownOf blankTree ≡ true
-blank-grown = fresh-grown usualEnds noAction none-valid usual-ends
 
 -- ---- a split
 pub map-set : {A B : Type 0} (g : A → B) (l : List A) (i : ℕ) (y : A) → map g (set l i y) ≡ set (map g l) i (g y)
@@ -375,7 +369,7 @@ module _ (t : RuleTree) (i : ℕ) (n : length (t .nodes) ≡ 513) (g : Grown t) 
       go (new k p) b =
           link-none (t .splits + 1) _ (8 * t .splits + 1 + k) (ap (λ (x : Node). x .children) (child k p))
       go (old m p o) b =
-          subst (λ (x : Node). linkHolds (t .splits + 1) (x .children) m ≡ true) (sym (split-other t i m p o)) (link-more (t .splits) _ m (g .links m b))
+          subst (λ (x : Node). linkHolds (t .splits + 1) (x .children) m ≡ true) (sym (split-other t i m p o)) (link-more (t .splits) (t .splits + 1) _ m (omega arith) (g .links m b))
 
   split-slot : (j : ℕ) → j < 513 → slotHolds (nodeAt (splitAt t i .nodes) j) (ltb j (nodeCount (t .splits + 1))) ≡ true
   split-slot j b = go (place (t .splits) i j) b

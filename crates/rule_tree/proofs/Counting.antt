@@ -18,18 +18,8 @@ use Rattle.rule_tree.specs.declared.Chosen.the-variants.{Leaf, Nobody, R
 use Rattle.rule_tree.specs.Lists.{countBelow, total}
 use Rattle.rule_tree.specs.Nodes.{nodeAt, isLeaf, nodeCount}
 use Rattle.rule_tree.specs.Counts.{limit, cappedTotal, noneAtParents, countsHold, usedIn, eligible, better, mostUsed}
+pub use Rattle.rule_tree.proofs.Lists.{and-left, and-right, and-both}
 use Rattle.rule_tree.proofs.Lists.{allBelow-fails, allBelow-more, allBelow-at, allBelow-all, countBelow-yes, countBelow-no, total-take, total-take-le}
-
-pub and-left : (a b : Bool) → a && b ≡ true → a ≡ true
-and-left true b h = refl
-and-left false b h = h
-
-pub and-right : (a b : Bool) → a && b ≡ true → b ≡ true
-and-right true b h = h
-and-right false b h = absurd (let z : _≡_ {A = ℕ} 0 1 = cc in omega arith)
-
-pub and-both : (a b : Bool) → a ≡ true → b ≡ true → a && b ≡ true
-and-both a b p q = rw (p, q)
 
 -- ---- the total, up to the limit
 pub capped-over : (xs : List ℕ) (i s : ℕ) → i < length xs → s ≡ total (take i xs) → 9007199254740992 - s < getD xs i 0 → 9007199254740993 ≡ cappedTotal xs

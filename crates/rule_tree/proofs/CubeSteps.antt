@@ -8,12 +8,13 @@ use borrow.Author.Tests.{eq-eqb, ne-eqb}
 use lib.ListN.{getD}
 use Rattle.remy.specs.declared.cube.Cube.{Cube}
 use Rattle.remy.specs.Cube.{childCube}
+use Rattle.rule_tree.specs.Nodes.{slots, mostSplits}
 use Rattle.rule_tree.specs.Cubes.{cubeAt}
 use Rattle.rule_tree.proofs.Owners.{same-or-not}
 
 -- each split's node comes before the eight nodes that it adds
 abbrev pub Low : List ℕ → Type 0
-Low ps = (k : ℕ) → k < 64 → getD ps k 0 ≤ 8 * k
+Low ps = (k : ℕ) → k < mostSplits → getD ps k 0 ≤ 8 * k
 
 -- the parent of node i
 abbrev pub parentOf : List ℕ → ℕ → ℕ
@@ -31,14 +32,14 @@ unfolding cubeAt
 step-cube d ps root i n = rw (ne-eqb i 0 n)
 
 module _ (ps : List ℕ) (root : Cube) (low : Low ps) where
-  pub parent-before : (i : ℕ) → i ≤ 512 → (i ≡ 0 → ⊥) → parentOf ps i < i
+  pub parent-before : (i : ℕ) → i < slots → (i ≡ 0 → ⊥) → parentOf ps i < i
   parent-before i b n = let z : 0 < i = positive i n in omega (arith, low ((i - 1) / 8) (omega arith))
     where
       positive : (i : ℕ) → (i ≡ 0 → ⊥) → 0 < i
       positive zero n = absurd (n refl)
       positive (suc i) n = omega arith
 
-  pub fuel : (d e i : ℕ) → i ≤ 512 → i ≤ d → i ≤ e → cubeAt d ps root i ≡ cubeAt e ps root i
+  pub fuel : (d e i : ℕ) → i < slots → i ≤ d → i ≤ e → cubeAt d ps root i ≡ cubeAt e ps root i
   fuel zero e i b p q = root-cube zero ps root i (omega arith) ∙ sym (root-cube e ps root i (omega arith))
   fuel (suc d) zero i b p q = root-cube (suc d) ps root i (omega arith) ∙ sym (root-cube zero ps root i (omega arith))
   fuel (suc d) (suc e) i b p q =
@@ -51,7 +52,7 @@ module _ (ps : List ℕ) (root : Cube) (low : Low ps) where
       (same-or-not i 0)
 
   -- child (i - 1) % 8 of its parent
-  pub child-step : (i : ℕ) → i ≤ 512 → (i ≡ 0 → ⊥)
+  pub child-step : (i : ℕ) → i < slots → (i ≡ 0 → ⊥)
       → cubeAt i ps root i ≡ childCube (cubeAt (parentOf ps i) ps root (parentOf ps i)) ((i - 1) % 8)
   child-step i b n =
       let l : parentOf ps i < i = parent-before i b n in

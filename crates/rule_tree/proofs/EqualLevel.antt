@@ -14,6 +14,7 @@ use Rattle.rule_tree.specs.declared.Node.{Node}
 use Rattle.rule_tree.specs.Lists.{allBelow}
 use Rattle.rule_tree.specs.Nodes.{nodeAt, noNode}
 use Rattle.rule_tree.specs.Equal.{cubeEqual, actionEqual, nodeEqual, childrenEqual}
+use Rattle.rule_tree.proofs.Lists.{and-false}
 
 -- two nodes by their cubes, links and actions, and by what is known of their children
 unfoldable pub levelOf : Cube → Cube → ℕ → Action → ℕ → Action → Bool → Bool
@@ -49,10 +50,6 @@ same-fields (suc n) s s′ t t′ p q i j c d =
     (allBelow 8 (λ k. same-fields n s s′ t t′ p q (p i .links z + k) (q j .links z + k) (childCube c k) (childCube d k) z)))
 
 -- a node past the end is a leaf whose action is not a number, so it equals none
-and-false : (b : Bool) → b && false ≡ false
-and-false true = refl
-and-false false = refl
-
 eq-nan : (x : Float) → eq x nan ≡ false
 unfolding eq
 eq-nan nan = refl

@@ -1,84 +1,53 @@
--- The recursion over copied arrays: one law for each way through `node_equal` and `children_equal`. Assumes nothing.
-use mathlib.Core.Path.{_≡_, refl, sym, subst, _∙_}
+-- The recursion over lent arrays: one law for each way through `node_equal` and `children_equal`. Assumes nothing.
+use mathlib.Core.Path.{_≡_, refl, sym, ap, subst, _∙_}
 use mathlib.Core.Bool.{Bool, true, false}
-use mathlib.Core.Logic.{_⊎_, inl, inr, ⊎-elim}
-use mathlib.Core.List.{List, map}
+use mathlib.Core.Logic.{⊎-elim}
+use mathlib.Core.List.{List}
 use Prim.Native.Nat.{ℕ, _+_, _-_, _<_, _≤_}
 use native.Mathlib.Omega.{arith}
-use borrow.Author.Tests.{eq-eqb, ne-eqb, ltb-true, ltb-false}
-use lib.Dec.{ltb}
-use lib.IntN.{ℤ}
-use lib.ListN.{length, getD, List·getD-eq-default, List·getD-map}
+use borrow.Author.Tests.{eq-eqb, ne-eqb}
+use lib.ListN.{length, getD, List·getD-eq-default}
 use lib.Ieee.{Float}
 use Rattle.remy.specs.declared.cube.Cube.{Cube}
-use Rattle.remy.specs.Action.{actionOf}
 use Rattle.remy.specs.Cube.{childCube}
 use Rattle.rule_tree.specs.declared.Node.{Node}
 use Rattle.rule_tree.specs.Lists.{allBelow}
-use Rattle.rule_tree.specs.Nodes.{nodeAt, noNode, childrenOf}
+use Rattle.rule_tree.specs.Nodes.{nodeAt, noNode, childrenOf, slots}
 use Rattle.rule_tree.specs.Equal.{cubeEqual, actionEqual, nodeEqual, childrenEqual}
-use Rattle.rule_tree.specs.Equal.{multiplierOf, incrementOf, delayOf, actionFrom, nodeFrom, nodesFrom}
+use Rattle.rule_tree.specs.Equal.{actionFrom, ActionsHeld, nodeFrom, nodesFrom}
 use Rattle.rule_tree.proofs.Lists.{allBelow-more, allBelow-fails, length-tabulate, getD-tabulate}
+use Rattle.rule_tree.proofs.LinkWays.{children-at}
+use Rattle.rule_tree.proofs.Owners.{below-or-not}
 use Rattle.rule_tree.proofs.EqualLevel.{levelOf, level, none-deep, Alike, AllAlike, same-fields, past-left, past-right}
 
 -- ---- the nodes that arrays hold
-module _ (cs : List ℕ) (ms : List Float) (is : List ℤ) (ds : List Float) where
-  pub length-from : length (nodesFrom cs ms is ds) ≡ 513
+module _ (cs : List ℕ) (xs : List Float) where
+  pub length-from : length (nodesFrom cs xs) ≡ slots
   unfolding nodesFrom
-  length-from = length-tabulate 513 (nodeFrom cs ms is ds)
+  length-from = length-tabulate slots (nodeFrom cs xs)
 
-  pub node-from : (i : ℕ) → i < 513 → nodeAt (nodesFrom cs ms is ds) i ≡ nodeFrom cs ms is ds i
+  pub node-from : (i : ℕ) → i < slots → nodeAt (nodesFrom cs xs) i ≡ nodeFrom cs xs i
   unfolding nodesFrom
-  node-from i h = getD-tabulate 513 i (nodeFrom cs ms is ds) noNode h
-
-lt-or-le : (k n : ℕ) → (k < n) ⊎ (n ≤ k)
-lt-or-le k n = go (ltb k n) refl
-  where
-    go : (b : Bool) → ltb k n ≡ b → (k < n) ⊎ (n ≤ k)
-    go true e = inl (ltb-true k n e)
-    go false e = inr (ltb-false k n e)
-
--- the nodes copied from a list are its own, but for the marks
-abbrev pub copyOf : List Node → List Node
-copyOf s = nodesFrom (childrenOf s) (map multiplierOf s) (map incrementOf s) (map delayOf s)
-
-module _ (s : List Node) (k : ℕ) where
-  copied-inside : k < 513 → Alike (nodeAt (copyOf s) k) (nodeAt s k)
-  copied-inside h =
-      rw (node-from (childrenOf s) (map multiplierOf s) (map incrementOf s) (map delayOf s) k h)
-      (record {
-        links = List·getD-map (λ (x : Node). x .children) s k noNode;
-        actions =
-            λ z. actionOf (List·getD-map multiplierOf s k noNode z) (List·getD-map incrementOf s k noNode z) (List·getD-map delayOf s k noNode z);
-      })
-
-  copied-past : length s ≡ 513 → 513 ≤ k → Alike (nodeAt (copyOf s) k) (nodeAt s k)
-  copied-past l h =
-      let e = length-from (childrenOf s) (map multiplierOf s) (map incrementOf s) (map delayOf s) in
-      rw (List·getD-eq-default (copyOf s) noNode {n = k} (omega arith), List·getD-eq-default s noNode {n = k} (omega arith))
-      (record { links = refl; actions = refl })
-
-from-copies : (s : List Node) → length s ≡ 513 → AllAlike (copyOf s) s
-from-copies s l k = ⊎-elim (copied-inside s k) (copied-past s k l) (lt-or-le k 513)
+  node-from i h = getD-tabulate slots i (nodeFrom cs xs) noNode h
 
 -- ---- the ways through `node_equal` and `children_equal`
-module _ (ac : List ℕ) (am : List Float) (ai : List ℤ) (ad : List Float) (bc : List ℕ) (bm : List Float) (bi : List ℤ) (bd : List Float) (c d : Cube) (n : ℕ) where
+module _ (ac : List ℕ) (ax : List Float) (bc : List ℕ) (bx : List Float) (c d : Cube) (n : ℕ) where
   abbrev A : List Node
-  A = nodesFrom ac am ai ad
+  A = nodesFrom ac ax
 
   abbrev B : List Node
-  B = nodesFrom bc bm bi bd
+  B = nodesFrom bc bx
 
   module _ (i j : ℕ) where
     pub at-zero : n ≡ 0 → false ≡ nodeEqual n A B i j c d
     at-zero e = sym (none-deep n A B i j c d e)
 
     module _ (deep : n ≡ 0 → ⊥) (hi : i < 513) (hj : j < 513) (r : Bool) (e : r ≡ cubeEqual c d) where
-      inside : nodeEqual n A B i j c d ≡ levelOf c d (getD ac i 0) (actionFrom am ai ad i) (getD bc j 0) (actionFrom bm bi bd j) (childrenEqual (n - 1) A B (getD ac i 0) (getD bc j 0) c d)
+      inside : nodeEqual n A B i j c d ≡ levelOf c d (getD ac i 0) (actionFrom ax i) (getD bc j 0) (actionFrom bx j) (childrenEqual (n - 1) A B (getD ac i 0) (getD bc j 0) c d)
       inside =
           level n A B i j c d deep
-          ∙ (λ z. let x = node-from ac am ai ad i hi z in
-          let y = node-from bc bm bi bd j hj z in
+          ∙ (λ z. let x = node-from ac ax i hi z in
+          let y = node-from bc bx j hj z in
           levelOf c d (x .children) (x .action) (y .children) (y .action) (childrenEqual (n - 1) A B (x .children) (y .children) c d))
 
       pub cubes-differ : r ≡ false → false ≡ nodeEqual n A B i j c d
@@ -86,7 +55,7 @@ module _ (ac : List ℕ) (am : List Float) (ai : List ℤ) (ad : List Float) (bc
       cubes-differ f = rw (inside, ← e, f)
 
       module _ (f : r ≡ true) where
-        pub both-leaves : getD ac i 0 ≡ 0 → getD bc j 0 ≡ 0 → (v : Bool) → v ≡ actionEqual (actionFrom am ai ad i) (actionFrom bm bi bd j) → v ≡ nodeEqual n A B i j c d
+        pub both-leaves : getD ac i 0 ≡ 0 → getD bc j 0 ≡ 0 → (v : Bool) → v ≡ actionEqual (actionFrom ax i) (actionFrom bx j) → v ≡ nodeEqual n A B i j c d
         unfolding levelOf
         both-leaves p q v g = g ∙ rw (inside, ← e, f, eq-eqb _ 0 p, eq-eqb _ 0 q)
 
@@ -110,12 +79,12 @@ module _ (ac : List ℕ) (am : List Float) (ai : List ℤ) (ad : List Float) (bc
 
     pub far-left : 505 < x → false ≡ childrenEqual n A B x y c d
     far-left h =
-        let l = length-from ac am ai ad in
+        let l = length-from ac ax in
         sym (allBelow-fails 8 7 _ (omega arith) (past-left n A B (x + 7) (y + 7) (childCube c 7) (childCube d 7) (omega arith)))
 
     pub far-right : 505 < y → false ≡ childrenEqual n A B x y c d
     far-right h =
-        let l = length-from bc bm bi bd in
+        let l = length-from bc bx in
         sym (allBelow-fails 8 7 _ (omega arith) (past-right n A B (x + 7) (y + 7) (childCube c 7) (childCube d 7) (omega arith)))
 
     -- what the call for child k answers
@@ -133,19 +102,27 @@ module _ (ac : List ℕ) (am : List Float) (ai : List ℤ) (ad : List Float) (bc
     all-same k h h′ e = sym (subst childrenSame (omega arith) e)
 
 -- ---- `equal`: what the recursion answers of the copies is so of the trees
-pub record Copies (s : List Node) (cs : List ℕ) (ms : List Float) (is : List ℤ) (ds : List Float) : Type 0 where
-  pub long : length s ≡ 513
+pub record Copies (s : List Node) (cs : List ℕ) (xs : List Float) : Type 0 where
+  pub long : length s ≡ slots
   pub links : cs ≡ childrenOf s
-  pub multipliers : ms ≡ map multiplierOf s
-  pub increments : is ≡ map incrementOf s
-  pub delays : ds ≡ map delayOf s
+  pub actions : ActionsHeld s xs slots
 
-module _ {s : List Node} {cs : List ℕ} {ms : List Float} {is : List ℤ} {ds : List Float} (h : Copies s cs ms is ds) where
-  all-alike : AllAlike (nodesFrom cs ms is ds) s
-  all-alike = rw (h .links, h .multipliers, h .increments, h .delays) (from-copies s (h .long))
+module _ {s : List Node} {cs : List ℕ} {xs : List Float} (h : Copies s cs xs) where
+  -- the nodes that the arrays hold are the list's, but for the marks
+  all-alike : AllAlike (nodesFrom cs xs) s
+  all-alike k = ⊎-elim inside past (below-or-not k slots)
+    where
+      inside : k < slots → Alike (nodeAt (nodesFrom cs xs) k) (nodeAt s k)
+      inside l = rw (node-from cs xs k l) (record { links = ap (λ (ys : List ℕ). getD ys k 0) (h .links) ∙ children-at s k; actions = h .actions k l })
 
-module _ {s t : List Node} {ac : List ℕ} {am : List Float} {ai : List ℤ} {ad : List Float} {bc : List ℕ} {bm : List Float} {bi : List ℤ} {bd : List Float} {c d c′ d′ : Cube} (n i j : ℕ) where
-  pub of-copies : Copies s ac am ai ad → Copies t bc bm bi bd → c ≡ c′ → d ≡ d′ → nodeEqual n (nodesFrom ac am ai ad) (nodesFrom bc bm bi bd) i j c d ≡ nodeEqual n s t i j c′ d′
+      past : slots ≤ k → Alike (nodeAt (nodesFrom cs xs) k) (nodeAt s k)
+      past l =
+          let e = length-from cs xs in
+          rw (List·getD-eq-default (nodesFrom cs xs) noNode {n = k} (omega arith), List·getD-eq-default s noNode {n = k} (omega (arith, h .long)))
+          (record { links = refl; actions = refl })
+
+module _ {s t : List Node} {ac : List ℕ} {ax : List Float} {bc : List ℕ} {bx : List Float} {c d c′ d′ : Cube} (n i j : ℕ) where
+  pub of-copies : Copies s ac ax → Copies t bc bx → c ≡ c′ → d ≡ d′ → nodeEqual n (nodesFrom ac ax) (nodesFrom bc bx) i j c d ≡ nodeEqual n s t i j c′ d′
   of-copies h k p q =
-      (λ z. nodeEqual n (nodesFrom ac am ai ad) (nodesFrom bc bm bi bd) i j (p z) (q z))
-      ∙ same-fields n (nodesFrom ac am ai ad) s (nodesFrom bc bm bi bd) t (all-alike h) (all-alike k) i j c′ d′
+      (λ z. nodeEqual n (nodesFrom ac ax) (nodesFrom bc bx) i j (p z) (q z))
+      ∙ same-fields n (nodesFrom ac ax) s (nodesFrom bc bx) t (all-alike h) (all-alike k) i j c′ d′

@@ -1,13 +1,13 @@
 -- What the test of a grown tree says, fact by fact, and back. Assumes nothing.
 use mathlib.Core.Path.{_≡_, refl, sym, ap, subst, _∙_}
-use mathlib.Core.Bool.{Bool, true, false, _&&_, _||_}
-use mathlib.Core.Logic.{⊎-elim, _⊎_}
+use mathlib.Core.Bool.{Bool, true, false, _&&_}
+use mathlib.Core.Logic.{⊎-elim, _⊎_, inl, inr}
 use mathlib.Core.List.{List}
 use Prim.Native.Nat.{ℕ, _+_, _*_, _%_, _<_, _≤_}
 use native.Mathlib.Omega.{arith}
-use borrow.Author.Tests.{lt-ltb, le-leb, eq-eqb, ne-eqb, eqb-true, leb-true, leb-false, ltb-true}
+use borrow.Author.Tests.{lt-ltb, le-leb, eq-eqb, eqb-true, leb-true, leb-false, ltb-true}
 use lib.Dec.{eqb, leb, ltb}
-use lib.ListN.{length, getD, List·getD-map, List·getD-eq-default}
+use lib.ListN.{length, getD, List·getD-eq-default}
 use lib.Ieee.{toBits}
 use Rattle.remy.specs.Action.{validOf}
 use Rattle.rule_tree.specs.declared.Node.{Node}
@@ -18,8 +18,12 @@ use Rattle.rule_tree.specs.Nodes.{noNode, nodeAt, isLeaf, nodeCount, chi
 use Rattle.rule_tree.specs.Grown.{linkHolds, linksHold, ownersOf, allOnes, linkedOf, plainOf, slotHolds, payloadsHold, endsHold, grownOf}
 use Rattle.rule_tree.specs.Counts.{countsHold, mostUsed}
 use Rattle.rule_tree.specs.Calls.{leafIn}
-use Rattle.rule_tree.proofs.Lists.{allBelow-at, allBelow-all, getD-tabulate}
-use Rattle.rule_tree.proofs.Counting.{and-left, and-right, and-both, counts-accepted, most-used-leaf, most-used-found, any-leaf, eligible-leaf}
+use Rattle.rule_tree.proofs.Lists.{allBelow-at, allBelow-all, getD-tabulate, and-left, and-right, and-both}
+use Rattle.rule_tree.proofs.Owners.{same-or-not}
+pub use Rattle.rule_tree.proofs.LinkWays.{children-at as child-at}
+pub use Rattle.rule_tree.proofs.Links.{link-leaf as link-none}
+use Rattle.rule_tree.proofs.Links.{link-of, link-holds, grown-splits, grown-own-links, grown-occurs, grown-slot-holds, grown-ends-hold, grown-unused-leaf, grown-valid}
+use Rattle.rule_tree.proofs.Counting.{counts-accepted, most-used-leaf, most-used-found, any-leaf, eligible-leaf}
 
 pub record Grown (t : RuleTree) : Type 0 where
   pub few : t .splits ≤ 64
@@ -27,9 +31,6 @@ pub record Grown (t : RuleTree) : Type 0 where
   pub owners : (k : ℕ) → k < t .splits → occurrences (8 * k + 1) (childrenOf (t .nodes)) ≡ 1
   pub slots : (i : ℕ) → i < 513 → slotHolds (nodeAt (t .nodes) i) (ltb i (nodeCount (t .splits))) ≡ true
   pub box : endsHold (t .ends) ≡ true
-
-pub child-at : (nodes : List Node) (i : ℕ) → getD (childrenOf nodes) i 0 ≡ nodeAt nodes i .children
-child-at nodes i = List·getD-map (λ (x : Node). x .children) nodes i noNode
 
 -- the tests, with their inner definitions shut
 grown-is : (t : RuleTree) → grownOf t ≡ (linkedOf (childrenOf (t .nodes)) (t .splits) && (payloadsHold (t .nodes) (t .splits) && endsHold (t .ends)))
@@ -41,31 +42,16 @@ unfolding linkedOf
 linked-is cs s = refl
 
 module _ (t : RuleTree) where
-  linked : grownOf t ≡ true → leb (t .splits) 64 && (linksHold (childrenOf (t .nodes)) (t .splits) && allOnes (ownersOf (childrenOf (t .nodes))) (t .splits)) ≡ true
-  linked h =
-      sym (linked-is _ _)
-      ∙ and-left (linkedOf (childrenOf (t .nodes)) (t .splits)) (payloadsHold (t .nodes) (t .splits) && endsHold (t .ends)) (sym (grown-is t) ∙ h)
-
-  laden : grownOf t ≡ true → payloadsHold (t .nodes) (t .splits) && endsHold (t .ends) ≡ true
-  laden h = and-right (linkedOf (childrenOf (t .nodes)) (t .splits)) (payloadsHold (t .nodes) (t .splits) && endsHold (t .ends)) (sym (grown-is t) ∙ h)
-
   pub grown-facts : grownOf t ≡ true → Grown t
-  grown-facts h =
-      let l = linked h in
-      let r = and-right (leb (t .splits) 64) _ l in
-      let s : t .splits ≤ 64 = leb-true _ _ (and-left (leb (t .splits) 64) _ l) in
-      record {
-        few = s;
-        links =
-            λ i p. subst (λ (c : ℕ). linkHolds (t .splits) c i ≡ true) (child-at (t .nodes) i)
-            (allBelow-at 513 i (λ j. linkHolds (t .splits) (getD (childrenOf (t .nodes)) j 0) j) (and-left (linksHold (childrenOf (t .nodes)) (t .splits)) _ r) p);
-        owners =
-            λ k p. sym (getD-tabulate 64 k (λ j. occurrences (8 * j + 1) (childrenOf (t .nodes))) 0 (omega arith))
-            ∙ eqb-true _ 1 (allBelow-at (t .splits) k (λ j. eqb (getD (ownersOf (childrenOf (t .nodes))) j 0) 1) (and-right (linksHold (childrenOf (t .nodes)) (t .splits)) _ r) p);
-        slots =
-            λ i p. allBelow-at 513 i (λ j. slotHolds (nodeAt (t .nodes) j) (ltb j (nodeCount (t .splits)))) (and-left (payloadsHold (t .nodes) (t .splits)) _ (laden h)) p;
-        box = and-right (payloadsHold (t .nodes) (t .splits)) _ (laden h);
-      }
+  grown-facts h = record {
+    few = grown-splits t h;
+    links =
+        λ i p. subst (λ (c : ℕ). linkHolds (t .splits) c i ≡ true) (child-at (t .nodes) i)
+        (allBelow-at 513 i (λ j. linkHolds (t .splits) (getD (childrenOf (t .nodes)) j 0) j) (grown-own-links t h) p);
+    owners = grown-occurs t h;
+    slots = grown-slot-holds t h;
+    box = grown-ends-hold t h;
+  }
 
   pub facts-grown : Grown t → grownOf t ≡ true
   facts-grown g =
@@ -92,35 +78,13 @@ pub record Parent (s c i : ℕ) : Type 0 where
   pub below : c < nodeCount s
 
 pub link-parts : (s c i : ℕ) → linkHolds s c i ≡ true → (c ≡ 0) ⊎ Parent s c i
-unfolding linkHolds
-link-parts s c i h = go (eqb c 0) refl h
-  where
-    go : (b : Bool) → eqb c 0 ≡ b → b || (eqb (c % 8) 1 && (ltb i c && ltb c (nodeCount s))) ≡ true → (c ≡ 0) ⊎ Parent s c i
-    go true e h = _⊎_.inl (eqb-true c 0 e)
-    go false e h =
-        let r = and-right (eqb (c % 8) 1) _ h in
-        _⊎_.inr
-        (record {
-          first = eqb-true (c % 8) 1 (and-left (eqb (c % 8) 1) _ h);
-          later = ltb-true i c (and-left (ltb i c) _ r);
-          below = ltb-true c (nodeCount s) (and-right (ltb i c) _ r);
-        })
-
-pub link-none : (s c i : ℕ) → c ≡ 0 → linkHolds s c i ≡ true
-unfolding linkHolds
-link-none s c i e = rw (eq-eqb c 0 e)
+link-parts s c i h =
+    ⊎-elim (λ (e : c ≡ 0). inl e)
+    (λ (n : c ≡ 0 → ⊥). let k = link-of s c i h n in inr (record { first = k .first; later = k .after; below = k .inside }))
+    (same-or-not c 0)
 
 pub link-from : (s c i : ℕ) → Parent s c i → linkHolds s c i ≡ true
-unfolding linkHolds
-link-from s c i p =
-    let e : eqb c 0 ≡ false = ne-eqb c 0 (λ z. absurd (omega (arith, p .later))) in
-    rw (e, eq-eqb (c % 8) 1 (p .first), lt-ltb i c (p .later), lt-ltb c (nodeCount s) (p .below))
-
-pub link-more : (s c i : ℕ) → linkHolds s c i ≡ true → linkHolds (s + 1) c i ≡ true
-link-more s c i h =
-    ⊎-elim (link-none (s + 1) c i)
-    (λ (p : Parent s c i). link-from (s + 1) c i (record { first = p .first; later = p .later; below = omega (arith, p .below) }))
-    (link-parts s c i h)
+link-from s c i p = link-holds s c i (record { first = p .first; after = p .later; inside = p .below })
 
 -- ---- one slot
 pub slot-used : (x : Node) (u : Bool) → u ≡ true → slotHolds x u ≡ validOf (x .action)
@@ -164,10 +128,7 @@ module _ (t : RuleTree) (g : Grown t) where
 
   -- a slot that is not in use has no children
   pub unused-childless : (i : ℕ) → i < 513 → nodeCount (t .splits) ≤ i → nodeAt (t .nodes) i .children ≡ 0
-  unused-childless i l u =
-      ⊎-elim (λ (e : nodeAt (t .nodes) i .children ≡ 0). e)
-      (λ (p : Parent (t .splits) (nodeAt (t .nodes) i .children) i). absurd (omega (arith, p .later, p .below)))
-      (link-parts _ _ _ (g .links i l))
+  unused-childless i l u = grown-unused-leaf t (facts-grown t g) i u l
 
   -- the last node is a leaf
   pub last-leaf : leafIn t (8 * t .splits) ≡ true
@@ -179,8 +140,7 @@ module _ (t : RuleTree) (g : Grown t) where
 
   -- a node's action is valid, and so a leaf's
   pub node-valid : (i : ℕ) → i < nodeCount (t .splits) → validOf (nodeAt (t .nodes) i .action) ≡ true
-  node-valid i l =
-      sym (slot-used (nodeAt (t .nodes) i) (ltb i (nodeCount (t .splits))) (lt-ltb _ _ l)) ∙ g .slots i (omega (arith, g .few))
+  node-valid i l = grown-valid t (facts-grown t g) i l
 
   pub leaf-valid : (i : ℕ) → leafIn t i ≡ true → validOf (nodeAt (t .nodes) i .action) ≡ true
   leaf-valid i h = node-valid i (leaf-below t i h)

@@ -13,9 +13,7 @@ use lib.Seq.{getD-set-same, getD-set-other, ext-getD}
 use lib.Ieee.{binary64, eq, toBits}
 use mir.Syntax.{w32}
 use mir.Val.{ofZ}
-use Rattle.remy.specs.declared.point.Point.{Point}
 use Rattle.remy.specs.Action.{validOf}
-use Rattle.remy.specs.Cube.{ack, send, ratio, usualEnds}
 use Rattle.rule_tree.specs.declared.Node.{Node}
 use Rattle.rule_tree.specs.declared.RuleTree.{RuleTree}
 use Rattle.rule_tree.specs.Lists.{allBelow, countBelow}
@@ -117,21 +115,6 @@ module _ (x : Node) where
   pub slot-unused : (used : Bool) → used ≡ false → plainOf x ≡ slotHolds x used
   unfolding slotHolds
   slot-unused used u = rw u
-
--- ---- ends_hold
-module _ (e : Point) where
-  pub ends-ratio : eq (ack e) (ack usualEnds) ≡ true → eq (send e) (send usualEnds) ≡ true
-      → eq (ratio e) (ratio usualEnds) ≡ endsHold e
-  unfolding endsHold
-  ends-ratio a s = rw (a, s)
-
-  pub ends-send : eq (ack e) (ack usualEnds) ≡ true → eq (send e) (send usualEnds) ≡ false → false ≡ endsHold e
-  unfolding endsHold
-  ends-send a s = rw (a, s)
-
-  pub ends-ack : eq (ack e) (ack usualEnds) ≡ false → false ≡ endsHold e
-  unfolding endsHold
-  ends-ack a = rw a
 
 -- ---- linked
 module _ (cs : List ℕ) (s : ℕ) where

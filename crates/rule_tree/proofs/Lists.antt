@@ -12,17 +12,20 @@ use lib.ListN.{length, getD, set, take, length-append, length-set, List·getD-ap
 use lib.Seq.{getD-set-same, getD-set-other, getD-append-seam, take-suc}
 use Rattle.rule_tree.specs.Lists.{allBelow, countBelow, occurrences, tabulate, total, fill}
 
-and-false : (b : Bool) → b && false ≡ false
+pub and-false : (b : Bool) → b && false ≡ false
 and-false true = refl
 and-false false = refl
 
-and-true-l : (a b : Bool) → a && b ≡ true → a ≡ true
-and-true-l true b h = refl
-and-true-l false b h = h
+pub and-left : (a b : Bool) → a && b ≡ true → a ≡ true
+and-left true b h = refl
+and-left false b h = h
 
-and-true-r : (a b : Bool) → a && b ≡ true → b ≡ true
-and-true-r true b h = h
-and-true-r false b h = absurd (let z : true ≡ false = sym h in let w : _≡_ {A = ℕ} 0 1 = cc in omega arith)
+pub and-right : (a b : Bool) → a && b ≡ true → b ≡ true
+and-right true b h = h
+and-right false b h = absurd (let z : _≡_ {A = ℕ} 0 1 = cc in omega arith)
+
+pub and-both : (a b : Bool) → a ≡ true → b ≡ true → a && b ≡ true
+and-both a b p q = rw (p, q)
 
 -- ---- allBelow
 pub allBelow-none : (f : ℕ → Bool) → allBelow 0 f ≡ true
@@ -45,14 +48,19 @@ pub allBelow-at : (n k : ℕ) (f : ℕ → Bool) → allBelow n f ≡ true → k
 unfolding allBelow
 allBelow-at zero k f h l = absurd (omega arith)
 allBelow-at (suc n) k f h l =
-    ⊎-elim (λ (p : k ≡ n). subst (λ (m : ℕ). f m ≡ true) (sym p) (and-true-r (allBelow n f) (f n) h))
-    (λ (q : k < n). allBelow-at n k f (and-true-l (allBelow n f) (f n) h) q)
+    ⊎-elim (λ (p : k ≡ n). subst (λ (m : ℕ). f m ≡ true) (sym p) (and-right (allBelow n f) (f n) h))
+    (λ (q : k < n). allBelow-at n k f (and-left (allBelow n f) (f n) h) q)
     (eq-or-lt-of-le (omega arith))
 
 pub allBelow-all : (n : ℕ) (f : ℕ → Bool) → ((k : ℕ) → k < n → f k ≡ true) → allBelow n f ≡ true
 unfolding allBelow
 allBelow-all zero f h = refl
 allBelow-all (suc n) f h = let a : allBelow n f ≡ true = allBelow-all n f (λ k l. h k (omega arith)) in let b : f n ≡ true = h n (omega arith) in rw (a, b)
+
+pub allBelow-same : (n : ℕ) (f g : ℕ → Bool) → ((k : ℕ) → k < n → f k ≡ g k) → allBelow n f ≡ allBelow n g
+unfolding allBelow
+allBelow-same zero f g h = refl
+allBelow-same (suc n) f g h = λ z. allBelow-same n f g (λ k l. h k (omega arith)) z && h n (omega arith) z
 
 -- ---- countBelow
 pub countBelow-le : (n : ℕ) (f : ℕ → Bool) → countBelow n f ≤ n

@@ -17,9 +17,9 @@ use Rattle.rule_tree.specs.declared.Tallied.{Tallied}
 use Rattle.rule_tree.specs.declared.Tallied.the-variants as tallied
 use Rattle.rule_tree.specs.declared.inner.walk.Reached.{Reached}
 use Rattle.rule_tree.specs.Lists.{total}
-use Rattle.rule_tree.specs.Nodes.{nodeAt, childrenOf}
+use Rattle.rule_tree.specs.Nodes.{nodeAt, childrenOf, nodeCount, slots}
 use Rattle.rule_tree.specs.Grown.{grownOf}
-use Rattle.rule_tree.specs.Walk.{walkOf, Walkable}
+use Rattle.rule_tree.specs.Walk.{walkOf, Walkable, leafOf}
 use Rattle.rule_tree.specs.Counts.{limit, cappedTotal, countsHold}
 use Rattle.rule_tree.specs.Change.{withAction}
 use Rattle.rule_tree.specs.Calls.{foundIn, tallyOf, countedIn}
@@ -27,41 +27,40 @@ use Rattle.rule_tree.proofs.Lists.{total-take, total-take-le}
 use Rattle.rule_tree.proofs.Counting.{counts-accepted}
 use Rattle.rule_tree.proofs.Changing.{action-at, action-other, action-links}
 use Rattle.rule_tree.proofs.Links.{grown-splits, grown-own-links, grown-walkable}
-use Rattle.rule_tree.proofs.Walking.{Leaf, walk-leaf}
-
--- ---- what the code has in its locals: the links, the root, the answer of `contains`
-pub record Inside (t : RuleTree) (p : Point) (cs : List ℕ) (root : Cube) : Type 0 where
-  pub links : cs ≡ childrenOf (t .nodes)
-  pub rooted : root ≡ rootOf (t .ends)
-  pub inside : containsOf (rootOf (t .ends)) p ≡ true
+use Rattle.rule_tree.proofs.Walking.{walk-leaf}
 
 -- the answer of `contains` on the root
 pub contained : (t : RuleTree) (p : Point) (root : Cube) (b v : Bool) → root ≡ rootOf (t .ends) → b ≡ containsOf root p → b ≡ v → containsOf (rootOf (t .ends)) p ≡ v
 contained t p root b v r h y = ap (λ (c : Cube). containsOf c p) (sym r) ∙ sym h ∙ y
 
-pub entered : (t : RuleTree) (p : Point) (cs : List ℕ) (root : Cube) (b : Bool)
-    → cs ≡ childrenOf (t .nodes) → root ≡ rootOf (t .ends) → b ≡ containsOf root p → b ≡ true → Inside t p cs root
-entered t p cs root b e r h y =
-    record { links = e; rooted = r; inside = contained t p root b true r h y }
+-- ---- leaf_at
+module _ (t : RuleTree) (p : Point) (cs : List ℕ) (root : Cube) (g : grownOf t ≡ true) (w : Whole (rootOf (t .ends)))
+    (e : cs ≡ childrenOf (t .nodes)) (q : root ≡ rootOf (t .ends)) (i : containsOf root p ≡ true) where
+  boxed : containsOf (rootOf (t .ends)) p ≡ true
+  boxed = rw q at i
 
-module _ (t : RuleTree) (p : Point) (cs : List ℕ) (root : Cube) (g : grownOf t ≡ true) (w : Whole (rootOf (t .ends))) (i : Inside t p cs root) where
   pub walk-ready : Walkable cs root p
-  walk-ready = rw (i .links, i .rooted) (record { links = grown-walkable t g; whole = w; inside = i .inside })
+  walk-ready = rw (e, q) (record { links = grown-walkable t g; whole = w; inside = boxed })
 
-  module _ (r : Reached) (e : r ≡ walkOf cs root p) where
-    pub walked : r ≡ walkOf (childrenOf (t .nodes)) (rootOf (t .ends)) p
-    walked = rw (i .links, i .rooted) at e
+  pub leaf-reached : (r : Reached) → r ≡ walkOf cs root p → (r .node ≡ leafOf t p) × (r .node < nodeCount (t .splits))
+  leaf-reached r h =
+      let k : r ≡ walkOf (childrenOf (t .nodes)) (rootOf (t .ends)) p = rw (e, q) at h in (
+        ap (λ (x : Reached). x .node) k,
+        subst (λ (x : Reached). x .node < nodeCount (t .splits)) (sym k)
+            (walk-leaf (childrenOf (t .nodes)) (rootOf (t .ends)) p (t .splits) (grown-splits t g) (grown-own-links t g) w boxed .node),
+      )
 
-    pub ends-leaf : Leaf (childrenOf (t .nodes)) (t .splits) r
-    ends-leaf =
-        subst (Leaf (childrenOf (t .nodes)) (t .splits)) (sym walked)
-        (walk-leaf (childrenOf (t .nodes)) (rootOf (t .ends)) p (t .splits) (grown-splits t g) (grown-own-links t g) w (i .inside))
+pub leaf-slot : (t : RuleTree) → grownOf t ≡ true → (n : ℕ) → n < nodeCount (t .splits) → n < slots
+leaf-slot t g n l = let a = grown-splits t g in omega arith
 
 -- ---- looked
+pub look-at : (t : RuleTree) (p : Point) (n : ℕ) → containsOf (rootOf (t .ends)) p ≡ true → n ≡ leafOf t p → Found (nodeAt (t .nodes) n .action) ≡ foundIn t p
+unfolding foundIn
+look-at t p n h e = rw (h, e)
+
 pub look-found : (t : RuleTree) (p : Point) (r : Reached) → containsOf (rootOf (t .ends)) p ≡ true → r ≡ walkOf (childrenOf (t .nodes)) (rootOf (t .ends)) p
     → Found (nodeAt (t .nodes) (r .node) .action) ≡ foundIn t p
-unfolding foundIn
-look-found t p r h e = rw (h, e)
+look-found t p r h e = look-at t p (r .node) h (ap (λ (x : Reached). x .node) e)
 
 pub look-nothing : (t : RuleTree) (p : Point) (root : Cube) (b : Bool) → root ≡ rootOf (t .ends) → b ≡ containsOf root p → b ≡ false → Nothing ≡ foundIn t p
 unfolding foundIn
@@ -104,7 +103,7 @@ module _ (t : RuleTree) (xs : List ℕ) (p : Point) (g : grownOf t ≡ true) (c 
       rw (g, c, h, eq-eqb (total xs) limit f)
 
   pub tally-counted : containsOf (rootOf (t .ends)) p ≡ true → (n : ℕ) → n ≡ cappedTotal xs → n < limit
-      → (r : Reached) → r ≡ walkOf (childrenOf (t .nodes)) (rootOf (t .ends)) p → tallied.Counted (r .node) ≡ tallyOf t xs p
+      → (r : ℕ) → r ≡ leafOf t p → tallied.Counted r ≡ tallyOf t xs p
   unfolding tallyOf
   tally-counted h n e m r q = rw (g, c, h, ne-eqb (total xs) limit (λ f. absurd (omega (arith, f))), q)
 

@@ -1,6 +1,6 @@
 -- What the tests of bits and floats say of a value that fits its type: a plain node holds the action (+0, 0, +0), and the ends are the
 -- usual ones. Assumes nothing.
-use mathlib.Core.Path.{_≡_, refl, sym, ap, subst, _∙_}
+use mathlib.Core.Path.{_≡_, refl, sym, ap, _∙_}
 use mathlib.Core.Bool.{Bool, true, false, not, _&&_}
 use Prim.Native.Nat.{ℕ, _*_, _^_, _<_}
 use native.Mathlib.Nat.{mul-pos}
@@ -18,11 +18,12 @@ use Rattle.floats.proofs.Bits.{bits-back}
 use Rattle.remy.specs.declared.action.Action.{Action}
 use Rattle.remy.specs.declared.point.Point.{Point}
 use Rattle.remy.specs.Action.{actionOf}
-use Rattle.remy.specs.Cube.{ack, send, ratio, usualEnds, pointOf, rootOf, Whole}
-use Rattle.remy.proofs.Partition.{whole-usual}
+use Rattle.remy.specs.Cube.{ack, send, ratio, usualEnds, endsAdmitted, pointEqual, pointOf, rootOf, Whole}
+use Rattle.remy.proofs.Ends.{whole-admitted, equal-ends, usual-admitted}
 use Rattle.rule_tree.specs.declared.Node.{Node}
 use Rattle.rule_tree.specs.Nodes.{noAction}
 use Rattle.rule_tree.specs.Grown.{plainOf, endsHold}
+pub use Rattle.rule_tree.proofs.Lists.{and-left as and-l, and-right as and-r}
 
 -- an action's numbers fit their types, as those of every value that a program holds
 pub record ActionFits (a : Action) : Type 0 where
@@ -34,14 +35,6 @@ pub record PointFits (p : Point) : Type 0 where
   pub acks : T (fits binary64 (ack p))
   pub sends : T (fits binary64 (send p))
   pub ratios : T (fits binary64 (ratio p))
-
-pub and-l : (a b : Bool) → a && b ≡ true → a ≡ true
-and-l true b h = refl
-and-l false b h = h
-
-pub and-r : (a b : Bool) → a && b ≡ true → b ≡ true
-and-r true b h = h
-and-r false b h = absurd (let z : _≡_ {A = ℕ} 0 1 = cc in omega arith)
 
 -- ---- plain
 zero-bits : (x : Float) → T (fits binary64 x) → toBits binary64 x ≡ 0 → x ≡ fin false 0 (pos 0)
@@ -98,7 +91,7 @@ equal-whole (fin true m d) n k l h g e =
     none a b l p q = omega arith
 
 pub ends-usual : (e : Point) → PointFits e → endsHold e ≡ true → e ≡ usualEnds
-unfolding endsHold fits
+unfolding endsHold pointEqual fits
 ends-usual e f h =
     let t = and-r (eq (ack e) (ack usualEnds)) _ h in
     rebuilt e _ _ _
@@ -109,5 +102,10 @@ ends-usual e f h =
     rebuilt : (p : Point) (a s r : Float) → ack p ≡ a → send p ≡ s → ratio p ≡ r → p ≡ pointOf a s r
     rebuilt p a s r x y z = λ j. pointOf (x j) (y j) (z j)
 
+-- ends that the test lets through are from 1 to 1,000,000; the laws of trees are over all such
+pub ends-admitted : (e : Point) → endsHold e ≡ true → endsAdmitted e ≡ true
+unfolding endsHold
+ends-admitted e h = equal-ends e usualEnds h usual-admitted
+
 pub ends-whole : (e : Point) → PointFits e → endsHold e ≡ true → Whole (rootOf e)
-ends-whole e f h = subst (λ (p : Point). Whole (rootOf p)) (sym (ends-usual e f h)) whole-usual
+ends-whole e f h = whole-admitted e (f .acks) (f .sends) (f .ratios) (ends-admitted e h)

@@ -7,17 +7,11 @@ use lib.ListN.{length}
 use lib.Dec.{ltb}
 use borrow.Author.Tests.{ltb-true}
 use mathlib.Core.List.{List}
-use Rattle.remy.specs.declared.action.Action.{Action}
-use Rattle.remy.specs.declared.point.Point.{Point}
-use Rattle.remy.specs.Cube.{usualEnds}
 use Rattle.rule_tree.specs.declared.RuleTree.{RuleTree}
-use Rattle.rule_tree.specs.declared.Tallied.{Tallied}
-use Rattle.rule_tree.specs.declared.Tallied.the-variants as tallied
-use Rattle.rule_tree.specs.Nodes.{nodeCount, noAction}
-use Rattle.rule_tree.specs.Change.{freshTree}
+use Rattle.rule_tree.specs.Nodes.{nodeCount, slots}
 use Rattle.rule_tree.specs.Grown.{grownOf}
 use Rattle.rule_tree.specs.Counts.{countsHold}
-use Rattle.rule_tree.specs.Calls.{leafIn, blankTree, countedIn}
+use Rattle.rule_tree.specs.Calls.{leafIn}
 use Rattle.rule_tree.proofs.Links.{grown-splits}
 use Rattle.rule_tree.proofs.GrownTree.{leaf-below}
 use Rattle.rule_tree.proofs.Counting.{counts-accepted}
@@ -45,13 +39,5 @@ leaf-fits t i g l = let a = grown-splits t g in let b = leaf-below t i l in omeg
 pub few-counts : (t : RuleTree) (xs : List ℕ) → grownOf t ≡ true → countsHold t xs ≡ true → length xs ≤ 513
 few-counts t xs g h = let a = grown-splits t g in let b = counts-accepted t xs h .one-a-node in omega arith
 
-pub node-fits : (t : RuleTree) (i : ℕ) → grownOf t ≡ true → ltb i (nodeCount (t .splits)) ≡ true → i ≤ 512
+pub node-fits : (t : RuleTree) (i : ℕ) → grownOf t ≡ true → ltb i (nodeCount (t .splits)) ≡ true → i < slots
 node-fits t i g l = let a = grown-splits t g in let b : i < nodeCount (t .splits) = ltb-true _ _ l in omega arith
-
-pub fresh-blank : (e : Point) (a : Action) → e ≡ usualEnds → a ≡ noAction → freshTree e a ≡ blankTree
-fresh-blank e a p q = rw (p, q)
-
--- a refused tally leaves the list
-pub list-kept : (xs : List ℕ) (a : Tallied) (k : ℕ) → tallied.Refused k ≡ a → xs ≡ countedIn xs a
-unfolding countedIn
-list-kept xs a k e = rw (← e)

@@ -4,11 +4,12 @@ use mathlib.Core.List.{List, [], _∷_}
 use Prim.Native.Nat.{ℕ, suc, _+_}
 use lib.ListN.{set, getD, length}
 use lib.Dec.{eqb, ltb}
-use Rattle.quantities.specs.Guards.{test, guarded}
+use Rattle.refusal.specs.Numbers.{badCounts, fullTally, fullTree, noLeaf, noSplit, notAdmitted, notGrown}
+use Rattle.refusal.specs.Guards.{Test, test, guarded}
 use Rattle.remy.specs.declared.action.Action.{Action}
 use Rattle.remy.specs.declared.point.Point.{Point}
 use Rattle.remy.specs.Action.{validOf}
-use Rattle.remy.specs.Cube.{rootOf, containsOf, usualEnds}
+use Rattle.remy.specs.Cube.{pointOf, zero, rootOf, containsOf, usualEnds}
 use Rattle.rule_tree.specs.declared.RuleTree.{RuleTree}
 use Rattle.rule_tree.specs.declared.AugmentedRuleTree.{AugmentedRuleTree}
 use Rattle.rule_tree.specs.declared.Changed.{Changed}
@@ -26,7 +27,7 @@ use Rattle.rule_tree.specs.declared.Number.the-variants as number
 use Rattle.rule_tree.specs.declared.Compared.{Compared}
 use Rattle.rule_tree.specs.declared.Compared.the-variants as compared
 use Rattle.rule_tree.specs.Lists.{countBelow, total}
-use Rattle.rule_tree.specs.Nodes.{nodeAt, isLeaf, nodeCount, noAction}
+use Rattle.rule_tree.specs.Nodes.{nodeAt, isLeaf, nodeCount, noAction, slots, mostSplits}
 use Rattle.rule_tree.specs.Grown.{grownOf}
 use Rattle.rule_tree.specs.Cubes.{cubeOf}
 use Rattle.rule_tree.specs.Walk.{leafOf}
@@ -41,44 +42,79 @@ refuse k t = record { refused = k; tree = t }
 abbrev pub taken : RuleTree → Changed
 taken t = record { refused = 0; tree = t }
 
--- the tree that a refused start hands back: one leaf with the action (+0, 0, +0)
+-- the tree that a refused start hands back: no point is in its box, and the test for 10 refuses it
 abbrev pub blankTree : RuleTree
-blankTree = freshTree usualEnds noAction
+blankTree = freshTree (pointOf zero zero zero) noAction
 
 -- a number names a leaf
 abbrev pub leafIn : RuleTree → ℕ → Bool
 leafIn t i = ltb i (nodeCount (t .splits)) && isLeaf (t .nodes) i
 
--- new tree: 1
-unfoldable pub newOf : Action → Changed
-newOf a = guarded (test (validOf a) 1 ∷ []) (λ k. refuse k blankTree) (taken (freshTree usualEnds a))
+-- ---- the tests of each call, in 01's order: "10 before all"; "3, 1, 20"; "4, 23"
+abbrev pub newOrder : Action → List Test
+newOrder a = test (validOf a) notAdmitted ∷ []
 
--- the cube of a node, leaf or parent: 10, 3
+abbrev pub grownOrder : RuleTree → List Test
+grownOrder t = test (grownOf t) notGrown ∷ []
+
+-- a node, leaf or parent
+abbrev pub domainOrder : RuleTree → ℕ → List Test
+domainOrder t i = test (grownOf t) notGrown ∷ test (ltb i (nodeCount (t .splits))) noLeaf ∷ []
+
+abbrev pub leafOrder : RuleTree → ℕ → List Test
+leafOrder t i = test (grownOf t) notGrown ∷ test (leafIn t i) noLeaf ∷ []
+
+abbrev pub actionOrder : RuleTree → ℕ → Action → List Test
+actionOrder t i a = test (grownOf t) notGrown ∷ test (leafIn t i) noLeaf ∷ test (validOf a) notAdmitted ∷ []
+
+-- "20 a 65th split"
+abbrev pub splitOrder : RuleTree → ℕ → List Test
+splitOrder t i = test (grownOf t) notGrown ∷ test (leafIn t i) noLeaf ∷ test (ltb (t .splits) mostSplits) fullTree ∷ []
+
+-- 02, wish 2: "refused with 24, after 10 alone"
+abbrev pub undoOrder : RuleTree → List Test
+undoOrder t = test (grownOf t) notGrown ∷ test (ltb 0 (t .splits)) noSplit ∷ []
+
+abbrev pub countsOrder : RuleTree → List ℕ → List Test
+countsOrder t xs = test (grownOf t) notGrown ∷ test (countsHold t xs) badCounts ∷ []
+
+-- "23 a tally that reaches a leaf with the total already 2^53"
+abbrev pub tallyOrder : RuleTree → List ℕ → Point → List Test
+tallyOrder t xs p =
+    test (grownOf t) notGrown ∷ test (countsHold t xs) badCounts
+    ∷ test (not (containsOf (rootOf (t .ends)) p && eqb (total xs) limit)) fullTally ∷ []
+
+abbrev pub equalOrder : RuleTree → RuleTree → List Test
+equalOrder a b = test (grownOf a) notGrown ∷ test (grownOf b) notGrown ∷ []
+
+-- ---- the calls
+unfoldable pub newOf : Action → Changed
+newOf a = guarded (newOrder a) (λ k. refuse k blankTree) (taken (freshTree usualEnds a))
+
+-- the cube of a node
 unfoldable pub domainOf : RuleTree → ℕ → Domain
-domainOf t i =
-    guarded (test (grownOf t) 10 ∷ test (ltb i (nodeCount (t .splits))) 3 ∷ []) domain.Refused (domain.Of (cubeOf t i))
+domainOf t i = guarded (domainOrder t i) domain.Refused (domain.Of (cubeOf t i))
 
 -- what a point finds in a grown tree
 unfoldable pub foundIn : RuleTree → Point → Looked
 foundIn t p =
     cond (containsOf (rootOf (t .ends)) p) (Found (nodeAt (t .nodes) (leafOf t p) .action)) looked.Nothing
 
--- lookup: 10
+-- lookup
 unfoldable pub lookupOf : RuleTree → Point → Looked
-lookupOf t p = guarded (test (grownOf t) 10 ∷ []) looked.Refused (foundIn t p)
+lookupOf t p = guarded (grownOrder t) looked.Refused (foundIn t p)
 
--- lookup with one leaf's action replaced: 10, 3, 1
+-- lookup with one leaf's action replaced
 unfoldable pub replacedOf : AugmentedRuleTree → Point → Looked
 replacedOf a p =
-    guarded (test (grownOf (a .tree)) 10 ∷ test (leafIn (a .tree) (a .leaf)) 3 ∷ test (validOf (a .action)) 1 ∷ [])
-    looked.Refused (foundIn (withAction (a .tree) (a .leaf) (a .action)) p)
+    guarded (actionOrder (a .tree) (a .leaf) (a .action)) looked.Refused
+    (foundIn (withAction (a .tree) (a .leaf) (a .action)) p)
 
--- tally: 10, 4, 23
+-- a tally
 unfoldable pub tallyOf : RuleTree → List ℕ → Point → Tallied
 tallyOf t xs p =
-    let inside = containsOf (rootOf (t .ends)) p in
-    guarded (test (grownOf t) 10 ∷ test (countsHold t xs) 4 ∷ test (not (inside && eqb (total xs) limit)) 23 ∷ [])
-    tallied.Refused (cond inside (tallied.Counted (leafOf t p)) tallied.Nothing)
+    guarded (tallyOrder t xs p) tallied.Refused
+    (cond (containsOf (rootOf (t .ends)) p) (tallied.Counted (leafOf t p)) tallied.Nothing)
 
 -- the lent list after a tally
 unfoldable pub countedIn : List ℕ → Tallied → List ℕ
@@ -86,41 +122,39 @@ countedIn xs (tallied.Counted i) = set xs i (getD xs i 0 + 1)
 countedIn xs tallied.Nothing = xs
 countedIn xs (tallied.Refused k) = xs
 
--- set action: 10, 3, 1
+-- set action
 unfoldable pub setOf : RuleTree → ℕ → Action → Changed
-setOf t i a =
-    guarded (test (grownOf t) 10 ∷ test (leafIn t i) 3 ∷ test (validOf a) 1 ∷ []) (λ k. refuse k t) (taken (withAction t i a))
+setOf t i a = guarded (actionOrder t i a) (λ k. refuse k t) (taken (withAction t i a))
 
--- mark: 10, 3
+-- mark
 unfoldable pub markOf : RuleTree → ℕ → Changed
-markOf t i = guarded (test (grownOf t) 10 ∷ test (leafIn t i) 3 ∷ []) (λ k. refuse k t) (taken (withMark t i))
+markOf t i = guarded (leafOrder t i) (λ k. refuse k t) (taken (withMark t i))
 
--- clear all marks: 10
+-- clear all marks
 unfoldable pub clearOf : RuleTree → Changed
-clearOf t = guarded (test (grownOf t) 10 ∷ []) (λ k. refuse k t) (taken (withoutMarks t))
+clearOf t = guarded (grownOrder t) (λ k. refuse k t) (taken (withoutMarks t))
 
--- split: 10, 3, 20
+-- split
 unfoldable pub splitOf : RuleTree → ℕ → Changed
-splitOf t i =
-    guarded (test (grownOf t) 10 ∷ test (leafIn t i) 3 ∷ test (ltb (t .splits) 64) 20 ∷ []) (λ k. refuse k t) (taken (splitAt t i))
+splitOf t i = guarded (splitOrder t i) (λ k. refuse k t) (taken (splitAt t i))
 
--- the newest split taken back: 10, 24
+-- the newest split taken back
 unfoldable pub undoOf : RuleTree → Changed
-undoOf t = guarded (test (grownOf t) 10 ∷ test (ltb 0 (t .splits)) 24 ∷ []) (λ k. refuse k t) (taken (undone t))
+undoOf t = guarded (undoOrder t) (λ k. refuse k t) (taken (undone t))
 
--- num_parents: 10
+-- num_parents
 unfoldable pub parentsOf : RuleTree → Number
-parentsOf t = guarded (test (grownOf t) 10 ∷ []) number.Refused (number.Of (countBelow 513 (λ i. not (isLeaf (t .nodes) i))))
+parentsOf t = guarded (grownOrder t) number.Refused (number.Of (countBelow slots (λ i. not (isLeaf (t .nodes) i))))
 
--- num_used_rules: 10, 4
+-- num_used_rules
 unfoldable pub usedOf : RuleTree → List ℕ → Number
-usedOf t xs = guarded (test (grownOf t) 10 ∷ test (countsHold t xs) 4 ∷ []) number.Refused (number.Of (usedIn xs))
+usedOf t xs = guarded (countsOrder t xs) number.Refused (number.Of (usedIn xs))
 
--- most used, or most used among the unmarked: 10, 4
+-- most used, or most used among the unmarked
 unfoldable pub mostUsedOf : Bool → RuleTree → List ℕ → Chosen
 mostUsedOf unmarked t xs =
-    guarded (test (grownOf t) 10 ∷ test (countsHold t xs) 4 ∷ []) chosen.Refused (mostUsed (t .nodes) xs unmarked (length xs))
+    guarded (countsOrder t xs) chosen.Refused (mostUsed (t .nodes) xs unmarked (length xs))
 
--- equality: 10, of either tree
+-- equality
 unfoldable pub equalOf : RuleTree → RuleTree → Compared
-equalOf a b = guarded (test (grownOf a) 10 ∷ test (grownOf b) 10 ∷ []) compared.Refused (compared.Same (treesEqual a b))
+equalOf a b = guarded (equalOrder a b) compared.Refused (compared.Same (treesEqual a b))

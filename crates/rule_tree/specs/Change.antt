@@ -9,12 +9,12 @@ use Rattle.remy.specs.declared.point.Point.{Point}
 use Rattle.rule_tree.specs.declared.Node.{Node}
 use Rattle.rule_tree.specs.declared.RuleTree.{RuleTree}
 use Rattle.rule_tree.specs.Lists.{fill}
-use Rattle.rule_tree.specs.Nodes.{nodeAt, leafWith, linkedTo, blankNode, childrenOf}
+use Rattle.rule_tree.specs.Nodes.{nodeAt, leafWith, linkedTo, blankNode, childrenOf, slots}
 use Rattle.rule_tree.specs.Cubes.{ownerBelow}
 
 -- "Node 0 is the root leaf"
 abbrev pub freshTree : Point → Action → RuleTree
-freshTree ends a = record { nodes = set (replicate 513 blankNode) 0 (leafWith a); splits = 0; ends = ends }
+freshTree ends a = record { nodes = set (replicate slots blankNode) 0 (leafWith a); splits = 0; ends = ends }
 
 abbrev pub withNodes : RuleTree → List Node → RuleTree
 withNodes t nodes = record { nodes = nodes; splits = t .splits; ends = t .ends }
@@ -49,7 +49,7 @@ splitAt t i =
 
 -- the node that the newest split made a parent
 abbrev pub newestParent : RuleTree → ℕ
-newestParent t = ownerBelow 513 (childrenOf (t .nodes)) (8 * (t .splits - 1) + 1)
+newestParent t = ownerBelow slots (childrenOf (t .nodes)) (8 * (t .splits - 1) + 1)
 
 -- "The parent becomes a leaf with the action and mark it had when split", and the nodes that the newest split added are blank again
 unfoldable pub undone : RuleTree → RuleTree

@@ -8,7 +8,7 @@ use Rattle.remy.specs.declared.cube.Cube.{Cube}
 use Rattle.remy.specs.Cube.{childCube, rootOf}
 use Rattle.rule_tree.specs.declared.RuleTree.{RuleTree}
 use Rattle.rule_tree.specs.Lists.{tabulate}
-use Rattle.rule_tree.specs.Nodes.{childrenOf}
+use Rattle.rule_tree.specs.Nodes.{childrenOf, slots, mostSplits}
 
 -- the last node below n whose first child is f, 0 where there is none
 unfoldable pub ownerBelow : ℕ → List ℕ → ℕ → ℕ
@@ -17,7 +17,7 @@ ownerBelow (suc n) cs f = cond (eqb (getD cs n 0) f) n (ownerBelow n cs f)
 
 -- the node that each split made a parent
 abbrev pub splitNodes : List ℕ → List ℕ
-splitNodes cs = tabulate 64 (λ k. ownerBelow 513 cs (8 * k + 1))
+splitNodes cs = tabulate mostSplits (λ k. ownerBelow slots cs (8 * k + 1))
 
 -- node 0 has the root cube, and any other is child (i - 1) % 8 of the node that its split made a parent; d is at least i
 unfoldable pub cubeAt : ℕ → List ℕ → Cube → ℕ → Cube

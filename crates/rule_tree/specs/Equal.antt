@@ -1,25 +1,21 @@
 -- 01, "Equality": "two nodes are equal when their cubes are and their children are pairwise equal, leaves by cube and action; marks don't count".
+use mathlib.Core.Path.{_≡_}
 use mathlib.Core.Bool.{Bool, true, false, _&&_, cond}
 use mathlib.Core.List.{List}
-use Prim.Native.Nat.{ℕ, zero, suc, _+_}
+use Prim.Native.Nat.{ℕ, zero, suc, _+_, _*_, _<_}
 use lib.Dec.{eqb}
 use lib.ListN.{getD}
-use lib.IntN.{ℤ, pos}
-use lib.Ieee.{Float, nan, eq}
+use lib.Ieee.{Float, nan, eq, toSigned}
 use mir.Syntax.{w32}
 use mir.Val.{ofZ}
 use Rattle.remy.specs.declared.action.Action.{Action}
-use Rattle.remy.specs.declared.point.Point.{Point}
 use Rattle.remy.specs.declared.cube.Cube.{Cube}
 use Rattle.remy.specs.Action.{actionOf}
-use Rattle.remy.specs.Cube.{ack, send, ratio, childCube, rootOf}
+use Rattle.remy.specs.Cube.{pointEqual, childCube, rootOf}
 use Rattle.rule_tree.specs.declared.Node.{Node}
 use Rattle.rule_tree.specs.declared.RuleTree.{RuleTree}
 use Rattle.rule_tree.specs.Lists.{allBelow, tabulate}
-use Rattle.rule_tree.specs.Nodes.{nodeAt}
-
-unfoldable pub pointEqual : Point → Point → Bool
-pointEqual p q = eq (ack p) (ack q) && (eq (send p) (send q) && eq (ratio p) (ratio q))
+use Rattle.rule_tree.specs.Nodes.{nodeAt, slots}
 
 unfoldable pub cubeEqual : Cube → Cube → Bool
 unfolding pointEqual
@@ -44,29 +40,24 @@ nodeEqual (suc depth) s t i j c d =
     (allBelow 8 (λ k. nodeEqual depth s t (x .children + k) (y .children + k) (childCube c k) (childCube d k))))
 
 abbrev pub treesEqual : RuleTree → RuleTree → Bool
-treesEqual a b = nodeEqual 513 (a .nodes) (b .nodes) 0 0 (rootOf (a .ends)) (rootOf (b .ends))
+treesEqual a b = nodeEqual slots (a .nodes) (b .nodes) 0 0 (rootOf (a .ends)) (rootOf (b .ends))
 
 -- ---- what the private functions of the code are held to
 -- the children of two parents, x and y being the first of each, pair by pair
 abbrev pub childrenEqual : ℕ → List Node → List Node → ℕ → ℕ → Cube → Cube → Bool
 childrenEqual depth s t x y c d = allBelow 8 (λ k. nodeEqual depth s t (x + k) (y + k) (childCube c k) (childCube d k))
 
--- the fields of a node that the code copies into arrays of their own
-abbrev pub multiplierOf : Node → Float
-multiplierOf x = x .action .«window_multiplier»
+-- the action that three numbers in a row hold: multiplier, increment, delay
+abbrev pub actionFrom : List Float → ℕ → Action
+actionFrom xs i = actionOf (getD xs (3 * i) nan) (toSigned 31 (getD xs (3 * i + 1) nan)) (getD xs (3 * i + 2) nan)
 
-abbrev pub incrementOf : Node → ℤ
-incrementOf x = x .action .«window_increment»
+-- such numbers hold the actions of the first n nodes
+abbrev pub ActionsHeld : List Node → List Float → ℕ → Type 0
+ActionsHeld nodes xs n = (k : ℕ) → k < n → actionFrom xs k ≡ nodeAt nodes k .action
 
-abbrev pub delayOf : Node → Float
-delayOf x = x .action .«intersend_delay» .0
+-- the nodes that links and such numbers hold, unmarked
+abbrev pub nodeFrom : List ℕ → List Float → ℕ → Node
+nodeFrom cs xs i = record { action = actionFrom xs i; children = getD cs i 0; optimized = false }
 
--- the action of node i, node i and all the nodes that such arrays hold, unmarked
-abbrev pub actionFrom : List Float → List ℤ → List Float → ℕ → Action
-actionFrom ms is ds i = actionOf (getD ms i nan) (getD is i (pos 0)) (getD ds i nan)
-
-abbrev pub nodeFrom : List ℕ → List Float → List ℤ → List Float → ℕ → Node
-nodeFrom cs ms is ds i = record { action = actionFrom ms is ds i; children = getD cs i 0; optimized = false }
-
-unfoldable pub nodesFrom : List ℕ → List Float → List ℤ → List Float → List Node
-nodesFrom cs ms is ds = tabulate 513 (nodeFrom cs ms is ds)
+unfoldable pub nodesFrom : List ℕ → List Float → List Node
+nodesFrom cs xs = tabulate slots (nodeFrom cs xs)

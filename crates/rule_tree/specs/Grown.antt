@@ -3,29 +3,28 @@ use mathlib.Core.Bool.{Bool, true, false, not, _&&_, _||_, cond}
 use mathlib.Core.List.{List}
 use Prim.Native.Nat.{ℕ, _+_, _*_, _%_}
 use lib.ListN.{getD}
-use lib.IntN.{pos}
 use lib.Dec.{eqb, ltb, leb}
-use lib.Ieee.{Float, fin, binary64, eq, toBits}
+use lib.Ieee.{binary64, toBits}
 use mir.Syntax.{w32}
 use mir.Val.{ofZ}
 use Rattle.remy.specs.declared.point.Point.{Point}
 use Rattle.remy.specs.Action.{validOf}
-use Rattle.remy.specs.Cube.{ack, send, ratio, usualEnds}
+use Rattle.remy.specs.Cube.{pointEqual, usualEnds}
 use Rattle.rule_tree.specs.declared.Node.{Node}
 use Rattle.rule_tree.specs.declared.RuleTree.{RuleTree}
 use Rattle.rule_tree.specs.Lists.{allBelow, occurrences, tabulate}
-use Rattle.rule_tree.specs.Nodes.{nodeAt, childrenOf, nodeCount}
+use Rattle.rule_tree.specs.Nodes.{nodeAt, childrenOf, nodeCount, slots, mostSplits}
 
 -- node i with children c is a leaf, or a parent whose first child is the first of a split's eight nodes and comes after it
 unfoldable pub linkHolds : ℕ → ℕ → ℕ → Bool
 linkHolds s c i = eqb c 0 || (eqb (c % 8) 1 && (ltb i c && ltb c (nodeCount s)))
 
 abbrev pub linksHold : List ℕ → ℕ → Bool
-linksHold cs s = allBelow 513 (λ i. linkHolds s (getD cs i 0) i)
+linksHold cs s = allBelow slots (λ i. linkHolds s (getD cs i 0) i)
 
 -- how many nodes have each split's eight nodes for children
 abbrev pub ownersOf : List ℕ → List ℕ
-ownersOf cs = tabulate 64 (λ k. occurrences (8 * k + 1) cs)
+ownersOf cs = tabulate mostSplits (λ k. occurrences (8 * k + 1) cs)
 
 abbrev pub allOnes : List ℕ → ℕ → Bool
 allOnes owners s = allBelow s (λ k. eqb (getD owners k 0) 1)
@@ -33,7 +32,7 @@ allOnes owners s = allBelow s (λ k. eqb (getD owners k 0) 1)
 -- "At most 64 splits"; "Split k makes one leaf a parent and adds nodes 8k-7 to 8k"
 unfoldable pub linkedOf : List ℕ → ℕ → Bool
 unfolding allBelow linkHolds
-linkedOf cs s = leb s 64 && (linksHold cs s && allOnes (ownersOf cs) s)
+linkedOf cs s = leb s mostSplits && (linksHold cs s && allOnes (ownersOf cs) s)
 
 -- the action is (+0, 0, +0), bit by bit, and the node is unmarked
 unfoldable pub plainOf : Node → Bool
@@ -47,11 +46,12 @@ unfolding plainOf
 slotHolds x used = cond used (validOf (x .action)) (plainOf x)
 
 abbrev pub payloadsHold : List Node → ℕ → Bool
-payloadsHold nodes s = allBelow 513 (λ i. slotHolds (nodeAt nodes i) (ltb i (nodeCount s)))
+payloadsHold nodes s = allBelow slots (λ i. slotHolds (nodeAt nodes i) (ltb i (nodeCount s)))
 
 -- "Root: 0 to 600 s, 0 to 600 s, 0 to 1000"
 unfoldable pub endsHold : Point → Bool
-endsHold e = eq (ack e) (ack usualEnds) && (eq (send e) (send usualEnds) && eq (ratio e) (ratio usualEnds))
+unfolding pointEqual
+endsHold e = pointEqual e usualEnds
 
 unfoldable pub grownOf : RuleTree → Bool
 unfolding linkedOf slotHolds endsHold

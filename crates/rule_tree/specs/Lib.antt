@@ -7,3 +7,4 @@ pub mod Counts
 pub mod Change
 pub mod Equal
 pub mod Calls
+pub mod Leaf

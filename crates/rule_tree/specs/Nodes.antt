@@ -41,5 +41,12 @@ childrenOf nodes = map (λ (x : Node). x .children) nodes
 abbrev pub nodeCount : ℕ → ℕ
 nodeCount s = 1 + 8 * s
 
+-- "At most 64 splits, 513 nodes"
+abbrev pub mostSplits : ℕ
+mostSplits = 64
+
+abbrev pub slots : ℕ
+slots = nodeCount mostSplits
+
 abbrev pub isLeaf : List Node → ℕ → Bool
 isLeaf nodes i = eqb (nodeAt nodes i .children) 0

@@ -10,7 +10,7 @@ use Rattle.remy.specs.declared.cube.Cube.{Cube}
 use Rattle.remy.specs.Cube.{containsOf, childCube, rootOf, Whole}
 use Rattle.rule_tree.specs.declared.RuleTree.{RuleTree}
 use Rattle.rule_tree.specs.declared.inner.walk.Reached.{Reached}
-use Rattle.rule_tree.specs.Nodes.{childrenOf}
+use Rattle.rule_tree.specs.Nodes.{childrenOf, slots, mostSplits}
 use Rattle.rule_tree.specs.Grown.{linksHold}
 
 -- the first of the left children from k on whose cube contains p
@@ -35,11 +35,11 @@ descend (suc d) cs i c p =
 
 -- the root's cube is tested too
 abbrev pub walkOf : List ℕ → Cube → Point → Reached
-walkOf cs root p = testedMore 1 (descend 513 cs 0 root p)
+walkOf cs root p = testedMore 1 (descend slots cs 0 root p)
 
 -- what the walk needs of its tree and its point
 pub record Walkable (cs : List ℕ) (root : Cube) (p : Point) : Type 0 where
-  pub links : T (linksHold cs 64)
+  pub links : T (linksHold cs mostSplits)
   pub whole : Whole root
   pub inside : containsOf root p ≡ true
 

@@ -3,5 +3,6 @@ pub mod change;
 pub mod counts;
 pub mod cubes;
 pub mod equal;
+pub mod leaf;
 pub mod links;
 pub mod walk;

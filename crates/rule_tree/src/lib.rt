@@ -9,6 +9,18 @@ use remy::point::Point;
 
 pub mod inner;
 
+// The most splits of a tree, and the nodes that it then has: as lengths, and as numbers of a node's width.
+pub const SPLITS: usize = 64;
+
+pub const NODES: usize = 1 + 8 * SPLITS;
+
+pub const MOST_SPLITS: u16 = SPLITS as u16;
+
+pub const MOST_NODES: u16 = NODES as u16;
+
+// The greatest total of counts.
+pub const MOST_COUNTED: u64 = 1 << 53;
+
 // A node: a leaf where children is 0, else a parent whose first child has that number.
 pub struct Node {
     pub action: Action,
@@ -17,7 +29,7 @@ pub struct Node {
 }
 
 pub struct RuleTree {
-    pub nodes: [Node; 513],
+    pub nodes: [Node; NODES],
     pub splits: u16,
     pub ends: Point,
 }
@@ -80,27 +92,28 @@ impl AugmentedRuleTree {
                 if a.valid() {
                     return inner::walk::looked_replaced(t, leaf, a, p);
                 }
-                return Looked::Refused(1);
+                return Looked::Refused(refusal::NOT_ADMITTED);
             }
-            return Looked::Refused(3);
+            return Looked::Refused(refusal::NO_LEAF);
         }
-        Looked::Refused(10)
+        Looked::Refused(refusal::NOT_GROWN)
     }
 }
 
 impl RuleTree {
-    // One leaf, the root, with the action.
+    // One leaf, the root, with the action. A refused start hands back a tree that every call refuses.
     pub fn new(action: Action) -> Changed
         ensures { λ r. ⌜ r ≡ newOf action ⌝ }
     {
-        let ends = Point::usual_ends();
         if action.valid() {
-            let tree = inner::change::fresh(ends, action);
+            let tree = inner::change::fresh(Point::usual_ends(), action);
             return Changed { refused: 0, tree };
         }
-        let none = Action::new(0.0, 0, 0.0);
-        let tree = inner::change::fresh(ends, none);
-        Changed { refused: 1, tree }
+        let tree = inner::change::blank();
+        Changed {
+            refused: refusal::NOT_ADMITTED,
+            tree,
+        }
     }
 
     // Whether the tree is grown from the root leaf by splits and holds what a tree may hold.
@@ -119,9 +132,9 @@ impl RuleTree {
                 let cube = inner::cubes::domain(self, node);
                 return Domain::Of(cube);
             }
-            return Domain::Refused(3);
+            return Domain::Refused(refusal::NO_LEAF);
         }
-        Domain::Refused(10)
+        Domain::Refused(refusal::NOT_GROWN)
     }
 
     // The action of the leaf that holds p.
@@ -131,7 +144,7 @@ impl RuleTree {
         if inner::links::grown(self) {
             return inner::walk::looked(self, p);
         }
-        Looked::Refused(10)
+        Looked::Refused(refusal::NOT_GROWN)
     }
 
     // One more for the leaf that holds p.
@@ -142,9 +155,9 @@ impl RuleTree {
             if inner::counts::counts_hold(self, counts) {
                 return inner::walk::tallied(self, counts, p);
             }
-            return Tallied::Refused(4);
+            return Tallied::Refused(refusal::BAD_COUNTS);
         }
-        Tallied::Refused(10)
+        Tallied::Refused(refusal::NOT_GROWN)
     }
 
     pub fn set_action(self, leaf: u16, action: Action) -> Changed
@@ -157,17 +170,17 @@ impl RuleTree {
                     return Changed { refused: 0, tree };
                 }
                 return Changed {
-                    refused: 1,
+                    refused: refusal::NOT_ADMITTED,
                     tree: self,
                 };
             }
             return Changed {
-                refused: 3,
+                refused: refusal::NO_LEAF,
                 tree: self,
             };
         }
         Changed {
-            refused: 10,
+            refused: refusal::NOT_GROWN,
             tree: self,
         }
     }
@@ -181,12 +194,12 @@ impl RuleTree {
                 return Changed { refused: 0, tree };
             }
             return Changed {
-                refused: 3,
+                refused: refusal::NO_LEAF,
                 tree: self,
             };
         }
         Changed {
-            refused: 10,
+            refused: refusal::NOT_GROWN,
             tree: self,
         }
     }
@@ -199,7 +212,7 @@ impl RuleTree {
             return Changed { refused: 0, tree };
         }
         Changed {
-            refused: 10,
+            refused: refusal::NOT_GROWN,
             tree: self,
         }
     }
@@ -209,22 +222,22 @@ impl RuleTree {
     {
         if inner::links::grown(self) {
             if inner::change::is_leaf(self, leaf) {
-                if self.splits < 64 {
+                if self.splits < MOST_SPLITS {
                     let tree = inner::change::split_at(self, leaf);
                     return Changed { refused: 0, tree };
                 }
                 return Changed {
-                    refused: 20,
+                    refused: refusal::FULL_TREE,
                     tree: self,
                 };
             }
             return Changed {
-                refused: 3,
+                refused: refusal::NO_LEAF,
                 tree: self,
             };
         }
         Changed {
-            refused: 10,
+            refused: refusal::NOT_GROWN,
             tree: self,
         }
     }
@@ -239,12 +252,12 @@ impl RuleTree {
                 return Changed { refused: 0, tree };
             }
             return Changed {
-                refused: 24,
+                refused: refusal::NO_SPLIT,
                 tree: self,
             };
         }
         Changed {
-            refused: 10,
+            refused: refusal::NOT_GROWN,
             tree: self,
         }
     }
@@ -255,7 +268,7 @@ impl RuleTree {
         if inner::links::grown(self) {
             return Number::Of(inner::links::num_parents(self));
         }
-        Number::Refused(10)
+        Number::Refused(refusal::NOT_GROWN)
     }
 
     pub fn num_used_rules(self, counts: &[u64]) -> Number
@@ -265,9 +278,9 @@ impl RuleTree {
             if inner::counts::counts_hold(self, counts) {
                 return Number::Of(inner::counts::used(counts));
             }
-            return Number::Refused(4);
+            return Number::Refused(refusal::BAD_COUNTS);
         }
-        Number::Refused(10)
+        Number::Refused(refusal::NOT_GROWN)
     }
 
     pub fn most_used_rule(self, counts: &[u64]) -> Chosen
@@ -277,9 +290,9 @@ impl RuleTree {
             if inner::counts::counts_hold(self, counts) {
                 return inner::counts::most_used(self, counts, false);
             }
-            return Chosen::Refused(4);
+            return Chosen::Refused(refusal::BAD_COUNTS);
         }
-        Chosen::Refused(10)
+        Chosen::Refused(refusal::NOT_GROWN)
     }
 
     pub fn most_used_unoptimized_rule(self, counts: &[u64]) -> Chosen
@@ -289,9 +302,9 @@ impl RuleTree {
             if inner::counts::counts_hold(self, counts) {
                 return inner::counts::most_used(self, counts, true);
             }
-            return Chosen::Refused(4);
+            return Chosen::Refused(refusal::BAD_COUNTS);
         }
-        Chosen::Refused(10)
+        Chosen::Refused(refusal::NOT_GROWN)
     }
 
     // Equal cubes and actions all the way down, marks left out.
@@ -303,6 +316,6 @@ impl RuleTree {
                 return Compared::Same(inner::equal::equal(self, other));
             }
         }
-        Compared::Refused(10)
+        Compared::Refused(refusal::NOT_GROWN)
     }
 }

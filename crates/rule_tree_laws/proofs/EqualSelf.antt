@@ -1,18 +1,16 @@
 -- What a grown tree's equality with itself needs: its cubes and actions are numbers, and no way down is longer than the depth. Assumes nothing.
-use mathlib.Core.Path.{_≡_, refl, subst}
+use mathlib.Core.Path.{_≡_, refl}
 use mathlib.Core.Bool.{Bool, true, false, not, _&&_, Bool·beq}
 use mathlib.Core.List.{List}
 use Prim.Native.Nat.{ℕ, zero, suc, _+_, _*_, _/_, _%_, _<_, _≤_}
-use native.Mathlib.Nat.{mul-pos}
 use native.Mathlib.Omega.{arith}
-use borrow.Author.Tests.{eq-eqb, ne-eqb, lt-ltb, eqb-true, eqb-false, ltb-true, leb-true}
-use lib.Dec.{T, eqb, ltb, leb}
-use lib.IntN.{ℤ, pos}
-use lib.ListN.{List·getD-map}
+use borrow.Author.Tests.{eq-eqb, ne-eqb}
+use lib.Dec.{T, eqb}
+use lib.IntN.{pos}
 use mir.Syntax.{w32}
 use mir.Val.{ofZ}
-use lib.Ieee.{Float, nan, inf, fin, up, down, binary64, add, div, eq, isNan}
-use lib.Ieee.Fits.{down-pos}
+use lib.Ieee.{Float, nan, inf, fin, up, down, binary64, add, div, eq, le, isNan}
+use lib.Ieee.Positive.{above, above-of-le}
 use lib.Ieee.Scale.{finite}
 use Rattle.floats.specs.Interval.{middle}
 use Rattle.floats.proofs.Nonneg.{plus, add-plus, half-plus}
@@ -20,24 +18,14 @@ use Rattle.remy.specs.declared.action.Action.{Action}
 use Rattle.remy.specs.declared.point.Point.{Point}
 use Rattle.remy.specs.declared.cube.Cube.{Cube}
 use Rattle.remy.specs.Action.{validOf}
-use Rattle.remy.specs.Cube.{ack, send, ratio, halfOf, halfCube, childCube, rootOf}
+use Rattle.remy.specs.Cube.{ack, send, ratio, pointEqual, leastEnd, endsAdmitted, halfOf, halfCube, childCube, rootOf}
+use Rattle.remy.proofs.Ends.{ends-from-one}
 use Rattle.rule_tree.specs.declared.Node.{Node}
-use Rattle.rule_tree.specs.declared.RuleTree.{RuleTree}
-use Rattle.rule_tree.specs.Nodes.{nodeAt, noNode, childrenOf, nodeCount}
-use Rattle.rule_tree.specs.Grown.{linkHolds, linksHold, linkedOf, slotHolds, payloadsHold, endsHold, grownOf}
-use Rattle.rule_tree.specs.Equal.{pointEqual, cubeEqual, actionEqual, nodeEqual, childrenEqual}
-use Rattle.rule_tree.proofs.Lists.{allBelow-at, allBelow-all}
-
-and-l : (a b : Bool) → a && b ≡ true → a ≡ true
-and-l true b h = refl
-and-l false b h = h
-
-and-r : (a b : Bool) → a && b ≡ true → b ≡ true
-and-r true b h = h
-and-r false b h = absurd (let z : _≡_ {A = ℕ} 0 1 = cc in omega arith)
-
-and-i : (a b : Bool) → a ≡ true → b ≡ true → a && b ≡ true
-and-i a b p q = rw (p, q)
+use Rattle.rule_tree.specs.Nodes.{nodeAt, nodeCount}
+use Rattle.rule_tree.specs.Equal.{cubeEqual, actionEqual, nodeEqual, childrenEqual}
+use Rattle.rule_tree.proofs.Lists.{allBelow-all}
+use Rattle.rule_tree.proofs.Plain.{and-l, and-r}
+use Rattle.rule_tree_laws.proofs.Slots.{Slot, leaf, parent}
 
 -- ---- a float that is a number equals itself
 beq-self : (s : Bool) → Bool·beq s s ≡ true
@@ -133,52 +121,26 @@ action-self a h =
       finite-self (a .«intersend_delay» .0) (and-l d _ (and-r m _ h)),
     )
 
--- an end that equals one above 0 is no negative number
-end-plus : (m : ℕ) (e : ℤ) (x : Float) → 0 < m * up e → eq x (fin false m e) ≡ true → T (plus x)
-unfolding eq
-end-plus m e nan l h = absurd (let z : _≡_ {A = ℕ} 0 1 = cc in omega arith)
-end-plus m e (inf s) l h = absurd (let z : _≡_ {A = ℕ} 0 1 = cc in omega arith)
-end-plus m e (fin false n d) l h = tt
-end-plus m e (fin true n d) l h =
-    let a = n * up d * down e in
-    let b = m * up e * down d in
-    let p : a ≡ b = eqb-true a b (and-l (eqb a b) (eqb a 0) h) in
-    let q : a ≡ 0 = eqb-true a 0 (and-r (eqb a b) (eqb a 0) h) in
-    let r : 0 < b = mul-pos l (down-pos d) in
-    absurd (omega arith)
+-- an end of 1 or more is no negative number
+one-plus : (x : Float) → T (le leastEnd x) → T (plus x)
+one-plus x h = go x (above-of-le leastEnd x tt h)
+  where
+    go : (x : Float) → T (above x) → T (plus x)
+    go nan h = absurd h
+    go (inf s) h = h
+    go (fin true m e) h = absurd h
+    go (fin false m e) h = tt
 
-pub root-rising : (e : Point) → endsHold e ≡ true → Rising (rootOf e)
-unfolding endsHold
+pub root-rising : (e : Point) → endsAdmitted e ≡ true → Rising (rootOf e)
 root-rising e h =
-    let x = eq (ack e) (fin false 75 (pos 3)) in
-    let y = eq (send e) (fin false 75 (pos 3)) in
-    let z = eq (ratio e) (fin false 125 (pos 3)) in
-    let k : y && z ≡ true = and-r x (y && z) h in
+    let l = ends-from-one e h in
     record {
-      acks = record { from = tt; to = end-plus 75 (pos 3) (ack e) (omega arith) (and-l x (y && z) h) };
-      sends = record { from = tt; to = end-plus 75 (pos 3) (send e) (omega arith) (and-l y z k) };
-      ratios = record { from = tt; to = end-plus 125 (pos 3) (ratio e) (omega arith) (and-r y z k) };
+      acks = record { from = tt; to = one-plus (ack e) (l .0) };
+      sends = record { from = tt; to = one-plus (send e) (l .1 .0) };
+      ratios = record { from = tt; to = one-plus (ratio e) (l .1 .1) };
     }
 
 -- ---- the nodes
--- what a grown tree has at node i: a leaf with a valid action, or a parent whose children come after it and are in use
-pub data Slot (s i : ℕ) (x : Node) : Type 0 where
-  leaf : x .children ≡ 0 → validOf (x .action) ≡ true → Slot s i x
-  parent : (x .children ≡ 0 → ⊥) → i < x .children → x .children + 7 < nodeCount s → Slot s i x
-
-slot-of : (s i : ℕ) (x : Node) → i < nodeCount s → linkHolds s (x .children) i ≡ true → slotHolds x (ltb i (nodeCount s)) ≡ true → Slot s i x
-unfolding linkHolds slotHolds
-slot-of s i x l h k = go (eqb (x .children) 0) refl
-  where
-    go : (b : Bool) → eqb (x .children) 0 ≡ b → Slot s i x
-    go true e = leaf (eqb-true (x .children) 0 e) (rw (lt-ltb i (nodeCount s) l) at k)
-    go false e =
-        let f : eqb (x .children % 8) 1 && (ltb i (x .children) && ltb (x .children) (nodeCount s)) ≡ true = rw e at h in
-        let a : x .children % 8 ≡ 1 = eqb-true (x .children % 8) 1 (and-l _ _ f) in
-        let b : i < x .children = ltb-true i (x .children) (and-l _ _ (and-r (eqb (x .children % 8) 1) _ f)) in
-        let c : x .children < nodeCount s = ltb-true (x .children) (nodeCount s) (and-r (ltb i (x .children)) _ (and-r (eqb (x .children % 8) 1) _ f)) in
-        parent (eqb-false (x .children) 0 e) b (omega arith)
-
 module _ (n : ℕ) (nodes : List Node) (i : ℕ) (c : Cube) (e : cubeEqual c c ≡ true) where
   leaf-self : nodeAt nodes i .children ≡ 0 → actionEqual (nodeAt nodes i .action) (nodeAt nodes i .action) ≡ true → nodeEqual (suc n) nodes nodes i i c c ≡ true
   unfolding nodeEqual
@@ -195,37 +157,10 @@ module _ (nodes : List Node) (s : ℕ) (slots : (i : ℕ) → i < nodeCount s �
 
   deeper : (n : ℕ) → Deep n → (i : ℕ) (c : Cube) → nodeCount s ≤ suc n + i → Rising c → Slot s i (nodeAt nodes i) → nodeEqual (suc n) nodes nodes i i c c ≡ true
   deeper n below i c h r (leaf f v) = leaf-self n nodes i c (cube-self c r) f (action-self (nodeAt nodes i .action) v)
-  deeper n below i c h r (parent f a w) =
-      parent-self n nodes i c (cube-self c r) f
+  deeper n below i c h r (parent a w) =
+      parent-self n nodes i c (cube-self c r) (λ z. omega (arith, z))
       (allBelow-all 8 _ (λ k l. below (nodeAt nodes i .children + k) (childCube c k) (omega arith) (omega arith) (child-rising c k r)))
 
   pub itself : (n : ℕ) → Deep n
   itself zero i c l h r = absurd (omega arith)
   itself (suc n) i c l h r = deeper n (itself n) i c h r (slots i l)
-
-module _ (t : RuleTree) (g : grownOf t ≡ true) where
-  linked : linkedOf (childrenOf (t .nodes)) (t .splits) ≡ true
-  unfolding grownOf
-  linked = and-l (linkedOf (childrenOf (t .nodes)) (t .splits)) _ g
-
-  rest : payloadsHold (t .nodes) (t .splits) && endsHold (t .ends) ≡ true
-  unfolding grownOf
-  rest = and-r (linkedOf (childrenOf (t .nodes)) (t .splits)) _ g
-
-  pub few : t .splits ≤ 64
-  unfolding linkedOf
-  few = leb-true (t .splits) 64 (and-l (leb (t .splits) 64) _ linked)
-
-  pub ends-hold : endsHold (t .ends) ≡ true
-  ends-hold = and-r (payloadsHold (t .nodes) (t .splits)) _ rest
-
-  links : linksHold (childrenOf (t .nodes)) (t .splits) ≡ true
-  unfolding linkedOf
-  links = and-l (linksHold (childrenOf (t .nodes)) (t .splits)) _ (and-r (leb (t .splits) 64) _ linked)
-
-  pub grown-slot : (i : ℕ) → i < nodeCount (t .splits) → Slot (t .splits) i (nodeAt (t .nodes) i)
-  grown-slot i l =
-      let f = few in
-      slot-of (t .splits) i (nodeAt (t .nodes) i) l
-      (subst (λ (x : ℕ). linkHolds (t .splits) x i ≡ true) (List·getD-map (λ (x : Node). x .children) (t .nodes) i noNode) (allBelow-at 513 i _ links (omega arith)))
-      (allBelow-at 513 i _ (and-l (payloadsHold (t .nodes) (t .splits)) _ rest) (omega arith))

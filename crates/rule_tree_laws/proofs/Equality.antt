@@ -1,4 +1,4 @@
--- Equality of trees: marks don't count, and a grown tree equals itself, so the depth is enough. Assumes nothing.
+-- Equality of trees: marks don't count, and a grown tree equals itself. Assumes nothing.
 use mathlib.Core.Path.{_≡_, refl}
 use mathlib.Core.Bool.{Bool, true, false, cond}
 use mathlib.Core.List.{List, [], _∷_, map}
@@ -14,7 +14,9 @@ use Rattle.rule_tree.specs.Change.{withMark, withoutMarks, unmarkedNode}
 use Rattle.rule_tree.specs.Grown.{grownOf}
 use Rattle.rule_tree.specs.Equal.{treesEqual}
 use Rattle.rule_tree.proofs.EqualLevel.{Alike, AllAlike, same-fields}
-use Rattle.rule_tree_laws.proofs.EqualSelf.{itself, root-rising, few, ends-hold, grown-slot}
+use Rattle.rule_tree.proofs.Links.{grown-splits, grown-admitted}
+use Rattle.rule_tree_laws.proofs.Slots.{grown-slot}
+use Rattle.rule_tree_laws.proofs.EqualSelf.{itself, root-rising}
 
 alike-self : (x : Node) → Alike x x
 alike-self x = record { links = refl; actions = refl }
@@ -67,5 +69,5 @@ module _ (t u : RuleTree) where
 
 pub equals-itself : (t : RuleTree) → grownOf t ≡ true → treesEqual t t ≡ true
 equals-itself t g =
-    let f = few t g in
-    itself (t .nodes) (t .splits) (grown-slot t g) 513 0 (rootOf (t .ends)) (omega arith) (omega arith) (root-rising (t .ends) (ends-hold t g))
+    let f = grown-splits t g in
+    itself (t .nodes) (t .splits) (grown-slot t g) 513 0 (rootOf (t .ends)) (omega arith) (omega arith) (root-rising (t .ends) (grown-admitted t g))

@@ -7,27 +7,20 @@ use native.Mathlib.Omega.{arith}
 use borrow.Author.Tests.{eq-eqb, lt-ltb}
 use lib.ListN.{length, replicate, length-set, getD-replicate}
 use lib.Seq.{getD-set-same, getD-set-other}
-use Rattle.remy.specs.declared.action.Action.{Action}
 use Rattle.remy.specs.Action.{validOf}
-use Rattle.remy.specs.Cube.{usualEnds}
 use Rattle.rule_tree.specs.declared.Node.{Node}
 use Rattle.rule_tree.specs.declared.RuleTree.{RuleTree}
 use Rattle.rule_tree.specs.Nodes.{noNode, nodeAt, nodeCount, leafWith, blankNode}
-use Rattle.rule_tree.specs.Grown.{grownOf}
+use Rattle.rule_tree.specs.Grown.{endsHold, grownOf}
 use Rattle.rule_tree.specs.Change.{freshTree, withAction, withMark, splitAt, newestParent, undone}
 use Rattle.rule_tree.specs.Calls.{leafIn}
 use Rattle.rule_tree.proofs.Owners.{same-or-not, below-or-not}
+use Rattle.rule_tree.proofs.Links.{grown-ends-hold}
 use Rattle.rule_tree.proofs.Changing.{split-length, split-splits, split-ends}
 use Rattle.rule_tree.proofs.Undoing.{newestFirst, undo-length, undo-splits, undo-ends, newest-leaf, undo-grown}
+pub use Rattle.rule_tree_laws.specs.Growth.{Growth, root, split, act, mark}
 use Rattle.rule_tree_laws.proofs.Sound.{kids, TreeFits, Sound, rebuilt, grown-sound}
 use Rattle.rule_tree_laws.proofs.Undone.{same-tree, same-nodes, undo-fits, undo-leaf, resplit-old, resplit-new}
-
--- a tree grown from a root leaf by splits of leaves, its leaves given actions and marks
-pub data Growth : RuleTree → Type 0 where
-  root : (a : Action) → validOf a ≡ true → Growth (freshTree usualEnds a)
-  split : (t : RuleTree) (i : ℕ) → Growth t → leafIn t i ≡ true → t .splits < 64 → Growth (splitAt t i)
-  act : (t : RuleTree) (i : ℕ) (a : Action) → Growth t → leafIn t i ≡ true → validOf a ≡ true → Growth (withAction t i a)
-  mark : (t : RuleTree) (i : ℕ) → Growth t → leafIn t i ≡ true → Growth (withMark t i)
 
 leaf-in : (t : RuleTree) (i : ℕ) → i < nodeCount (t .splits) → kids t i ≡ 0 → leafIn t i ≡ true
 leaf-in t i l z = rw (lt-ltb i (nodeCount (t .splits)) l, eq-eqb (kids t i) 0 z)
@@ -148,7 +141,7 @@ module _ (t : RuleTree) (f : TreeFits t) (g : grownOf t ≡ true) (s : 0 < t .sp
       (p .grown)
 
 -- ---- no split: the root leaf
-module _ (t : RuleTree) (h : Sound t) (e : t .splits ≡ 0) where
+module _ (t : RuleTree) (h : Sound t) (b : endsHold (t .ends) ≡ true) (e : t .splits ≡ 0) where
   root-kids : kids t 0 ≡ 0
   root-kids =
       ⊎-elim (λ (z : kids t 0 ≡ 0). z)
@@ -158,18 +151,18 @@ module _ (t : RuleTree) (h : Sound t) (e : t .splits ≡ 0) where
       (same-or-not (kids t 0) 0)
 
   abbrev fresh : RuleTree
-  fresh = freshTree usualEnds (nodeAt (t .nodes) 0 .action)
+  fresh = freshTree (t .ends) (nodeAt (t .nodes) 0 .action)
 
   root-dressed : Dressed fresh 0 (nodeAt (t .nodes) 0)
   root-dressed =
       let v = h .held 0 (omega arith) in
-      dressed fresh (root (nodeAt (t .nodes) 0 .action) v) 0 (omega arith) (omega arith) refl refl (nodeAt (t .nodes) 0) root-kids v
+      dressed fresh (root (t .ends) (nodeAt (t .nodes) 0 .action) b v) 0 (omega arith) (omega arith) refl refl (nodeAt (t .nodes) 0) root-kids v
 
   rooted : Growth t
   rooted =
       let d = root-dressed in
       subst Growth
-      (same-tree (d .tree) t (d .splits ∙ sym e) (d .ends ∙ sym (h .ends))
+      (same-tree (d .tree) t (d .splits ∙ sym e) (d .ends)
       (same-nodes 513 (d .tree .nodes) (t .nodes) (d .count)
       (h .full) (same d)))
       (d .grown)
@@ -189,7 +182,7 @@ module _ (t : RuleTree) (h : Sound t) (e : t .splits ≡ 0) where
 
 -- ---- by the number of splits
 from-splits : (s : ℕ) (t : RuleTree) → t .splits ≡ s → TreeFits t → grownOf t ≡ true → Growth t
-from-splits zero t e f g = rooted t (grown-sound t f g) e
+from-splits zero t e f g = rooted t (grown-sound t f g) (grown-ends-hold t g) e
 from-splits (suc r) t e f g =
     let s : 0 < t .splits = omega arith in
     regrown t f g s (from-splits r (undone t) (omega (arith, undo-splits t)) (undo-fits t f g s) (undo-grown t (f .full) g s))

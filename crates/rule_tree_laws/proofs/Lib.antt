@@ -7,6 +7,9 @@ pub mod Undone
 pub mod UndonePoints
 pub mod Growth
 pub mod GrowthTest
+pub mod Slots
 pub mod EqualSelf
+pub mod Depth
 pub mod Equality
+pub mod Starts
 pub mod Lens

@@ -28,6 +28,7 @@ use Rattle.rule_tree.proofs.LinkWays.{children-at}
 use Rattle.rule_tree.proofs.Plain.{PointFits}
 use Rattle.rule_tree.proofs.Links.{Link, grown-linked, grown-whole}
 use Rattle.rule_tree.proofs.Walking.{eight-inside, On, at-root, at-leaf, step, links-parent, descent, walk-leaf, linked-few, linked-links}
+pub use Rattle.rule_tree_laws.specs.Leaves.{InOneLeaf, InNone}
 use Rattle.rule_tree_laws.proofs.Family.{Child, child-of, born, cubeIn, cube-root, cube-child, nought-or-more}
 
 -- node j, whose cube holds p, is on the walk from the root
@@ -146,19 +147,6 @@ leaf-link nodes i e = children-at nodes i ∙ eqb-true (nodeAt nodes i .children
 link-leaf : (nodes : List Node) (i : ℕ) → getD (childrenOf nodes) i 0 ≡ 0 → isLeaf nodes i ≡ true
 link-leaf nodes i e = eq-eqb (nodeAt nodes i .children) 0 (sym (children-at nodes i) ∙ e)
 
--- a point of the box lies in the cube of the leaf that it reaches, in no other leaf's, and finds that leaf's action
-pub record InOneLeaf (t : RuleTree) (p : Point) : Type 0 where
-  pub node : leafOf t p < nodeCount (t .splits)
-  pub leaf : isLeaf (t .nodes) (leafOf t p) ≡ true
-  pub inside : containsOf (cubeOf t (leafOf t p)) p ≡ true
-  pub only : (j : ℕ) → j < nodeCount (t .splits) → isLeaf (t .nodes) j ≡ true → containsOf (cubeOf t j) p ≡ true → j ≡ leafOf t p
-  pub found : foundIn t p ≡ Found (nodeAt (t .nodes) (leafOf t p) .action)
-
--- any other point lies in no node's cube and finds nothing
-pub record InNone (t : RuleTree) (p : Point) : Type 0 where
-  pub none : (j : ℕ) → j < nodeCount (t .splits) → containsOf (cubeOf t j) p ≡ false
-  pub nothing : foundIn t p ≡ Nothing
-
 found-inside : (t : RuleTree) (p : Point) → containsOf (rootOf (t .ends)) p ≡ true → foundIn t p ≡ Found (nodeAt (t .nodes) (leafOf t p) .action)
 unfolding foundIn
 found-inside t p e = rw e
@@ -197,7 +185,7 @@ pub parts-box : (t : RuleTree) → linkedOf (childrenOf (t .nodes)) (t .splits) 
     → (containsOf (rootOf (t .ends)) p ≡ true → InOneLeaf t p) × (containsOf (rootOf (t .ends)) p ≡ false → InNone t p)
 parts-box t h n a s r p = let w = whole-root (t .ends) a s r in (in-one-leaf t p h n w, in-none t p h n w)
 
--- ---- a grown tree, whose ends are the usual ones
+-- ---- a grown tree
 module _ (t : RuleTree) (g : grownOf t ≡ true) (n : length (t .nodes) ≡ 513) (f : PointFits (t .ends)) (p : Point) where
   pub grown-one-leaf : containsOf (rootOf (t .ends)) p ≡ true → InOneLeaf t p
   grown-one-leaf e = in-one-leaf t p (grown-linked t g) n (grown-whole t g f) e

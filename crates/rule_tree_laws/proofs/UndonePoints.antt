@@ -25,8 +25,9 @@ use Rattle.rule_tree.proofs.Links.{grown-linked, grown-splits, grown-whole}
 use Rattle.rule_tree.proofs.GrownTree.{leaf-childless}
 use Rattle.rule_tree.proofs.Changing.{split-length, split-ends}
 use Rattle.rule_tree.proofs.Undoing.{newestFirst, undo-length, undo-splits, undo-ends, newest-before, newest-leaf, undo-parent, undo-other, undo-grown}
+use Rattle.rule_tree_laws.specs.Leaves.{InOneLeaf}
 use Rattle.rule_tree_laws.proofs.Sound.{TreeFits}
-use Rattle.rule_tree_laws.proofs.Partition.{InOneLeaf, grown-one-leaf, grown-none}
+use Rattle.rule_tree_laws.proofs.Partition.{grown-one-leaf, grown-none}
 use Rattle.rule_tree_laws.proofs.Splitting.{cubes-kept, reach-other}
 use Rattle.rule_tree_laws.proofs.Undone.{undo-fits, undo-leaf, resplit-old, resplit-new}
 

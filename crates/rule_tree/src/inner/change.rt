@@ -1,12 +1,13 @@
 // What changes a tree.
 ghost use mathlib.Core.Path.{_≡_};
 ghost use mathlib.Core.Bool.{true};
-ghost use Prim.Native.Nat.{_≤_, _<_};
+ghost use Prim.Native.Nat.{_+_, _≤_, _<_};
 ghost use lib.Dec.{ltb};
 ghost use Rattle.rule_tree.specs.Lists.{fill};
-ghost use Rattle.rule_tree.specs.Nodes.{nodeCount};
+ghost use Rattle.rule_tree.specs.Nodes.{nodeCount, slots, mostSplits};
 ghost use Rattle.rule_tree.specs.Change.{freshTree, withNodes, withAction, withMark, unmarkedNode, withoutMarks, splitAt, newestParent, undone};
-ghost use Rattle.rule_tree.specs.Calls.{leafIn};
+ghost use Rattle.rule_tree.specs.Calls.{leafIn, blankTree};
+use crate::NODES;
 use crate::Node;
 use crate::RuleTree;
 use crate::inner::cubes;
@@ -21,7 +22,7 @@ pub fn is_node(t: RuleTree, i: u16) -> bool
 }
 
 pub fn is_leaf(t: RuleTree, i: u16) -> bool
-    requires { ⌜ t .splits ≤ 64 ⌝ }
+    requires { ⌜ t .splits ≤ mostSplits ⌝ }
     ensures { λ r. ⌜ r ≡ leafIn t i ⌝ }
 {
     if is_node(t, i) {
@@ -45,7 +46,7 @@ pub fn fresh(ends: Point, action: Action) -> RuleTree
         children: 0,
         optimized: false,
     };
-    let mut nodes = [blank; 513];
+    let mut nodes = [blank; NODES];
     nodes[0] = leaf;
     RuleTree {
         nodes,
@@ -54,8 +55,17 @@ pub fn fresh(ends: Point, action: Action) -> RuleTree
     }
 }
 
+// The tree of a refused start: no point is in its box, and the test refuses it.
+pub fn blank() -> RuleTree
+    ensures { λ r. ⌜ r ≡ blankTree ⌝ }
+{
+    let ends = Point::new(0.0, 0.0, 0.0);
+    let none = Action::new(0.0, 0, 0.0);
+    fresh(ends, none)
+}
+
 pub fn with_action(t: RuleTree, i: u16, action: Action) -> RuleTree
-    requires { ⌜ i < 513 ⌝ }
+    requires { ⌜ i < slots ⌝ }
     ensures { λ r. ⌜ r ≡ withAction t i action ⌝ }
 {
     let at = i as usize;
@@ -71,7 +81,7 @@ pub fn with_action(t: RuleTree, i: u16, action: Action) -> RuleTree
 }
 
 pub fn with_mark(t: RuleTree, i: u16) -> RuleTree
-    requires { ⌜ i < 513 ⌝ }
+    requires { ⌜ i < slots ⌝ }
     ensures { λ r. ⌜ r ≡ withMark t i ⌝ }
 {
     let at = i as usize;
@@ -106,7 +116,7 @@ pub fn without_marks(t: RuleTree) -> RuleTree
 {
     let mut out = t;
     let mut i: usize = 0;
-    while i < 513 {
+    while i < NODES {
         let x = t.nodes[i];
         out.nodes[i] = unmarked(x);
         i += 1;
@@ -116,7 +126,7 @@ pub fn without_marks(t: RuleTree) -> RuleTree
 
 // The eight nodes from a place on become x.
 fn eight_filled(t: RuleTree, from: usize, x: Node) -> RuleTree
-    requires { ⌜ from ≤ 505 ⌝ }
+    requires { ⌜ from + 8 ≤ slots ⌝ }
     ensures { λ r. ⌜ r ≡ withNodes t (fill (t .nodes) from 8 x) ⌝ }
 {
     let mut out = t;
@@ -129,7 +139,7 @@ fn eight_filled(t: RuleTree, from: usize, x: Node) -> RuleTree
 }
 
 pub fn split_at(t: RuleTree, i: u16) -> RuleTree
-    requires { ⌜ (i < 513) × (t .splits < 64) ⌝ }
+    requires { ⌜ (i < slots) × (t .splits < mostSplits) ⌝ }
     ensures { λ r. ⌜ r ≡ splitAt t i ⌝ }
 {
     let at = i as usize;
@@ -155,7 +165,7 @@ pub fn split_at(t: RuleTree, i: u16) -> RuleTree
 
 // The node that the newest split made a parent.
 fn newest_parent(t: RuleTree) -> u16
-    requires { ⌜ (0 < t .splits) × (t .splits ≤ 64) ⌝ }
+    requires { ⌜ (0 < t .splits) × (t .splits ≤ mostSplits) ⌝ }
     ensures { λ r. ⌜ r ≡ newestParent t ⌝ }
 {
     let children = links::children_of(t);
@@ -165,7 +175,7 @@ fn newest_parent(t: RuleTree) -> u16
 }
 
 pub fn undo(t: RuleTree) -> RuleTree
-    requires { ⌜ (0 < t .splits) × (t .splits ≤ 64) ⌝ }
+    requires { ⌜ (0 < t .splits) × (t .splits ≤ mostSplits) ⌝ }
     ensures { λ r. ⌜ r ≡ undone t ⌝ }
 {
     let none = Action::new(0.0, 0, 0.0);

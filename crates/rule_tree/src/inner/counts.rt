@@ -2,12 +2,17 @@
 ghost use mathlib.Core.Path.{_≡_};
 ghost use Prim.Native.Nat.{_≤_, _<_};
 ghost use lib.ListN.{length};
+ghost use Rattle.rule_tree.specs.Nodes.{slots, mostSplits};
 ghost use Rattle.rule_tree.specs.Counts.{cappedTotal, noneAtParents, countsHold, usedIn, eligible, mostUsed};
 use crate::Chosen;
+use crate::MOST_COUNTED;
 use crate::Node;
 use crate::RuleTree;
 
-// The total, or 2^53 + 1 where it is above 2^53.
+// One more than the greatest total.
+const OVER: u64 = MOST_COUNTED + 1;
+
+// The total, or one more than 2^53 where it is above that.
 pub fn capped_total(counts: &[u64]) -> u64
     ensures { λ r. ⌜ r ≡ cappedTotal (now (counts .entry)) ⌝ }
 {
@@ -15,8 +20,8 @@ pub fn capped_total(counts: &[u64]) -> u64
     let mut i: usize = 0;
     while i < counts.len() {
         let x = counts[i];
-        if 9007199254740992 - total < x {
-            return 9007199254740993;
+        if MOST_COUNTED - total < x {
+            return OVER;
         }
         total += x;
         i += 1;
@@ -25,7 +30,7 @@ pub fn capped_total(counts: &[u64]) -> u64
 }
 
 fn none_at_parents(t: RuleTree, counts: &[u64]) -> bool
-    requires { ⌜ length (now counts) ≤ 513 ⌝ }
+    requires { ⌜ length (now counts) ≤ slots ⌝ }
     ensures { λ r. ⌜ r ≡ noneAtParents (t .nodes) (now (counts .entry)) (length (now (counts .entry))) ⌝ }
 {
     let mut i: usize = 0;
@@ -41,12 +46,12 @@ fn none_at_parents(t: RuleTree, counts: &[u64]) -> bool
 }
 
 pub fn counts_hold(t: RuleTree, counts: &[u64]) -> bool
-    requires { ⌜ t .splits ≤ 64 ⌝ }
+    requires { ⌜ t .splits ≤ mostSplits ⌝ }
     ensures { λ r. ⌜ r ≡ countsHold t (now (counts .entry)) ⌝ }
 {
     if counts.len() == 1 + 8 * (t.splits as usize) {
         if none_at_parents(t, counts) {
-            return capped_total(counts) <= 9007199254740992;
+            return capped_total(counts) <= MOST_COUNTED;
         }
     }
     false
@@ -54,7 +59,7 @@ pub fn counts_hold(t: RuleTree, counts: &[u64]) -> bool
 
 // How many counts are above 0.
 pub fn used(counts: &[u64]) -> u32
-    requires { ⌜ length (now counts) ≤ 513 ⌝ }
+    requires { ⌜ length (now counts) ≤ slots ⌝ }
     ensures { λ r. ⌜ r ≡ usedIn (now (counts .entry)) ⌝ }
 {
     let mut n: u32 = 0;
@@ -82,7 +87,7 @@ fn is_eligible(x: Node, unmarked: bool) -> bool
 
 // The leaf with the greatest count, the highest of several; unmarked leaves alone where asked.
 pub fn most_used(t: RuleTree, counts: &[u64], unmarked: bool) -> Chosen
-    requires { ⌜ length (now counts) ≤ 513 ⌝ }
+    requires { ⌜ length (now counts) ≤ slots ⌝ }
     ensures { λ r. ⌜ r ≡ mostUsed (t .nodes) (now (counts .entry)) unmarked (length (now (counts .entry))) ⌝ }
 {
     let mut found = false;

@@ -4,24 +4,28 @@ ghost use mathlib.Core.Bool.{true};
 ghost use Prim.Native.Nat.{ℕ, _<_, _≤_, _*_, _+_};
 ghost use lib.ListN.{getD};
 ghost use Rattle.remy.specs.Cube.{rootOf};
-ghost use Rattle.rule_tree.specs.Nodes.{childrenOf};
+ghost use Rattle.rule_tree.specs.Nodes.{childrenOf, slots, mostSplits};
 ghost use Rattle.rule_tree.specs.Grown.{grownOf};
 ghost use Rattle.rule_tree.specs.Cubes.{splitNodes, cubeAt, cubeOf};
+use crate::MOST_NODES;
+use crate::MOST_SPLITS;
+use crate::NODES;
 use crate::RuleTree;
+use crate::SPLITS;
 use crate::inner::links;
 use remy::cube::Cube;
 
 // The node that each split made a parent.
-pub fn split_nodes(children: &[u16; 513]) -> [u16; 64]
+pub fn split_nodes(children: &[u16; NODES]) -> [u16; SPLITS]
     ensures { λ r. ⌜ r ≡ splitNodes (now (children .entry)) ⌝ }
 {
-    let mut out = [0u16; 64];
+    let mut out = [0u16; SPLITS];
     let mut i: u16 = 0;
-    while i < 513 {
+    while i < MOST_NODES {
         let c = children[i as usize];
         if c % 8 == 1 {
             let k = c / 8;
-            if k < 64 {
+            if k < MOST_SPLITS {
                 out[k as usize] = i;
             }
         }
@@ -31,8 +35,8 @@ pub fn split_nodes(children: &[u16; 513]) -> [u16; 64]
 }
 
 // The cube of node i: child (i - 1) % 8 of the node that its split made a parent.
-fn cube_at(parents: &[u16; 64], root: Cube, i: u16) -> Cube
-    requires { ⌜ (i ≤ 512) × ((k : ℕ) → k < 64 → getD (now parents) k 0 ≤ 8 * k) ⌝ }
+fn cube_at(parents: &[u16; SPLITS], root: Cube, i: u16) -> Cube
+    requires { ⌜ (i < slots) × ((k : ℕ) → k < mostSplits → getD (now parents) k 0 ≤ 8 * k) ⌝ }
     ensures { λ r. ⌜ r ≡ cubeAt i (now (parents .entry)) root i ⌝ }
 {
     if i == 0 {
@@ -44,7 +48,7 @@ fn cube_at(parents: &[u16; 64], root: Cube, i: u16) -> Cube
 }
 
 pub fn domain(t: RuleTree, i: u16) -> Cube
-    requires { ⌜ (grownOf t ≡ true) × (i ≤ 512) ⌝ }
+    requires { ⌜ (grownOf t ≡ true) × (i < slots) ⌝ }
     ensures { λ r. ⌜ r ≡ cubeOf t i ⌝ }
 {
     let children = links::children_of(t);

@@ -4,19 +4,22 @@ ghost use mathlib.Core.Bool.{not};
 ghost use Prim.Native.Nat.{_≤_};
 ghost use lib.ListN.{getD};
 ghost use Rattle.rule_tree.specs.Lists.{countBelow};
-ghost use Rattle.rule_tree.specs.Nodes.{childrenOf, isLeaf};
+ghost use Rattle.rule_tree.specs.Nodes.{childrenOf, isLeaf, slots, mostSplits};
 ghost use Rattle.rule_tree.specs.Grown.{linkHolds, linksHold, ownersOf, allOnes, linkedOf, plainOf, slotHolds, payloadsHold, endsHold, grownOf};
+use crate::MOST_SPLITS;
+use crate::NODES;
 use crate::Node;
 use crate::RuleTree;
+use crate::SPLITS;
 use remy::point::Point;
 
 // Each node's first child, 0 for a leaf.
-pub fn children_of(t: RuleTree) -> [u16; 513]
+pub fn children_of(t: RuleTree) -> [u16; NODES]
     ensures { λ r. ⌜ r ≡ childrenOf (t .nodes) ⌝ }
 {
-    let mut out = [0u16; 513];
+    let mut out = [0u16; NODES];
     let mut i: usize = 0;
-    while i < 513 {
+    while i < NODES {
         out[i] = t.nodes[i].children;
         i += 1;
     }
@@ -38,11 +41,11 @@ fn link_holds(splits: u16, c: u16, i: usize) -> bool
     false
 }
 
-fn links_hold(children: &[u16; 513], splits: u16) -> bool
+fn links_hold(children: &[u16; NODES], splits: u16) -> bool
     ensures { λ r. ⌜ r ≡ linksHold (now (children .entry)) splits ⌝ }
 {
     let mut i: usize = 0;
-    while i < 513 {
+    while i < NODES {
         let c = children[i];
         if link_holds(splits, c, i) {
             i += 1;
@@ -54,17 +57,17 @@ fn links_hold(children: &[u16; 513], splits: u16) -> bool
 }
 
 // How many nodes have the eight nodes of each split for children.
-fn owners(children: &[u16; 513]) -> [u16; 64]
+fn owners(children: &[u16; NODES]) -> [u16; SPLITS]
     ensures { λ r. ⌜ r ≡ ownersOf (now (children .entry)) ⌝ }
 {
     let nodes: &[u16] = children;
-    let mut out = [0u16; 64];
+    let mut out = [0u16; SPLITS];
     let mut i: usize = 0;
     while i < nodes.len() {
         let c = nodes[i];
         if c % 8 == 1 {
             let k = c / 8;
-            if k < 64 {
+            if k < MOST_SPLITS {
                 let k = k as usize;
                 out[k] = out[k] + 1;
             }
@@ -74,8 +77,8 @@ fn owners(children: &[u16; 513]) -> [u16; 64]
     out
 }
 
-fn all_ones(owners: &[u16; 64], splits: u16) -> bool
-    requires { ⌜ splits ≤ 64 ⌝ }
+fn all_ones(owners: &[u16; SPLITS], splits: u16) -> bool
+    requires { ⌜ splits ≤ mostSplits ⌝ }
     ensures { λ r. ⌜ r ≡ allOnes (now (owners .entry)) splits ⌝ }
 {
     let n = splits as usize;
@@ -90,10 +93,10 @@ fn all_ones(owners: &[u16; 64], splits: u16) -> bool
     true
 }
 
-pub fn linked(children: &[u16; 513], splits: u16) -> bool
+pub fn linked(children: &[u16; NODES], splits: u16) -> bool
     ensures { λ r. ⌜ r ≡ linkedOf (now (children .entry)) splits ⌝ }
 {
-    if splits <= 64 {
+    if splits <= MOST_SPLITS {
         if links_hold(children, splits) {
             let o = owners(children);
             return all_ones(&o, splits);
@@ -131,7 +134,7 @@ fn payloads_hold(t: RuleTree) -> bool
 {
     let n = 1 + 8 * (t.splits as usize);
     let mut i: usize = 0;
-    while i < 513 {
+    while i < NODES {
         let x = t.nodes[i];
         let used = i < n;
         if slot_holds(x, used) {
@@ -143,15 +146,11 @@ fn payloads_hold(t: RuleTree) -> bool
     true
 }
 
+// The box is the usual one.
 pub fn ends_hold(e: Point) -> bool
     ensures { λ r. ⌜ r ≡ endsHold e ⌝ }
 {
-    if e.ack_ewma.0 == 600.0 {
-        if e.send_ewma.0 == 600.0 {
-            return e.rtt_ratio == 1000.0;
-        }
-    }
-    false
+    e.equals(Point::usual_ends())
 }
 
 pub fn grown(t: RuleTree) -> bool
@@ -168,11 +167,11 @@ pub fn grown(t: RuleTree) -> bool
 }
 
 pub fn num_parents(t: RuleTree) -> u32
-    ensures { λ r. ⌜ r ≡ countBelow 513 (λ i. not (isLeaf (t .nodes) i)) ⌝ }
+    ensures { λ r. ⌜ r ≡ countBelow slots (λ i. not (isLeaf (t .nodes) i)) ⌝ }
 {
     let mut n: u32 = 0;
     let mut i: usize = 0;
-    while i < 513 {
+    while i < NODES {
         if t.nodes[i].children != 0 {
             n += 1;
         }

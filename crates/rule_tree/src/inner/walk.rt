@@ -1,12 +1,17 @@
 // The walk from the root down to a leaf, and what sits on it.
 ghost use mathlib.Core.Path.{_≡_};
 ghost use mathlib.Core.Bool.{true};
+ghost use Prim.Native.Nat.{_<_};
+ghost use Rattle.remy.specs.Cube.{rootOf, containsOf};
+ghost use Rattle.rule_tree.specs.Nodes.{nodeCount};
 ghost use Rattle.rule_tree.specs.Grown.{grownOf};
-ghost use Rattle.rule_tree.specs.Walk.{walkOf, Walkable};
+ghost use Rattle.rule_tree.specs.Walk.{walkOf, Walkable, leafOf};
 ghost use Rattle.rule_tree.specs.Counts.{countsHold};
 ghost use Rattle.rule_tree.specs.Change.{withAction};
 ghost use Rattle.rule_tree.specs.Calls.{foundIn, leafIn, tallyOf, countedIn};
 use crate::Looked;
+use crate::MOST_COUNTED;
+use crate::NODES;
 use crate::RuleTree;
 use crate::Tallied;
 use crate::inner::counts;
@@ -22,7 +27,7 @@ pub struct Reached {
 }
 
 // From the root down to the leaf that holds p.
-pub fn walk(children: &[u16; 513], root: Cube, p: Point) -> Reached
+pub fn walk(children: &[u16; NODES], root: Cube, p: Point) -> Reached
     requires { ⌜ Walkable (now children) root p ⌝ }
     ensures { λ r. ⌜ r ≡ walkOf (now (children .entry)) root p ⌝ }
 {
@@ -40,6 +45,15 @@ pub fn walk(children: &[u16; 513], root: Cube, p: Point) -> Reached
     Reached { node: i, tested }
 }
 
+// The leaf that a point of the box reaches, in a tree that was tested.
+fn leaf_at(t: RuleTree, root: Cube, p: Point) -> u16
+    requires { ⌜ (grownOf t ≡ true) × (root ≡ rootOf (t .ends)) × (containsOf root p ≡ true) ⌝ }
+    ensures { λ r. ⌜ (r ≡ leafOf t p) × (r < nodeCount (t .splits)) ⌝ }
+{
+    let children = links::children_of(t);
+    walk(&children, root, p).node
+}
+
 // What p finds in a tree that was tested.
 pub fn looked(t: RuleTree, p: Point) -> Looked
     requires { ⌜ grownOf t ≡ true ⌝ }
@@ -48,8 +62,7 @@ pub fn looked(t: RuleTree, p: Point) -> Looked
     let e = t.ends;
     let root = Cube::root(e);
     if root.contains(p) {
-        let children = links::children_of(t);
-        let i = walk(&children, root, p).node as usize;
+        let i = leaf_at(t, root, p) as usize;
         let x = t.nodes[i];
         let a = x.action;
         return Looked::Found(a);
@@ -65,8 +78,7 @@ pub fn looked_replaced(t: RuleTree, leaf: u16, action: Action, p: Point) -> Look
     let e = t.ends;
     let root = Cube::root(e);
     if root.contains(p) {
-        let children = links::children_of(t);
-        let node = walk(&children, root, p).node;
+        let node = leaf_at(t, root, p);
         if node == leaf {
             return Looked::Found(action);
         }
@@ -86,14 +98,13 @@ pub fn tallied(t: RuleTree, counts: &mut [u64], p: Point) -> Tallied
     let e = t.ends;
     let root = Cube::root(e);
     if root.contains(p) {
-        if counts::capped_total(counts) < 9007199254740992 {
-            let children = links::children_of(t);
-            let node = walk(&children, root, p).node;
+        if counts::capped_total(counts) < MOST_COUNTED {
+            let node = leaf_at(t, root, p);
             let i = node as usize;
             counts[i] = counts[i] + 1;
             return Tallied::Counted(node);
         }
-        return Tallied::Refused(23);
+        return Tallied::Refused(refusal::FULL_TALLY);
     }
     Tallied::Nothing
 }

@@ -1,7 +1,8 @@
 -- `RuleTree::tally` tests in the order 10, 4, 23, and a refusal leaves the list. Assumes nothing.
 use mathlib.Core.Path.{refl}
 use Rattle.rule_tree.specs.Calls.{tallyOf}
-use Rattle.rule_tree.proofs.Ways.{via-true, via-false, was-true, few-splits, list-kept}
+use Rattle.rule_tree.proofs.Ways.{via-true, via-false, was-true, few-splits}
+use Rattle.rule_tree.proofs.Looking.{counted-refused}
 use borrow.Author.Needs.{needs}
 use Rattle.rule_tree.proofs.RuleTree.tally.Statement.{statement}
 use Rattle.rule_tree.proofs.RuleTree.tally.Tie as tie
@@ -29,13 +30,13 @@ unfolding tallyOf
 returns-2 c = (
   (via-true _ (c .before .before .before .before .grown .ensures) (c .before .before .before .if1 .taken)
       (via-false _ (c .before .counts-hold .ensures) (c .if2 .left) refl)),
-  list-kept _ _ 4 (via-true _ (c .before .before .before .before .grown .ensures) (c .before .before .before .if1 .taken)
+  counted-refused _ _ 4 (via-true _ (c .before .before .before .before .grown .ensures) (c .before .before .before .if1 .taken)
       (via-false _ (c .before .counts-hold .ensures) (c .if2 .left) refl)),
 )
 
 returns-3 : tie.Need-returns-3
 unfolding tallyOf
-returns-3 c = ((via-false _ (c .before .grown .ensures) (c .if1 .left) refl), list-kept _ _ 10 (via-false _ (c .before .grown .ensures) (c .if1 .left) refl))
+returns-3 c = ((via-false _ (c .before .grown .ensures) (c .if1 .left) refl), counted-refused _ _ 10 (via-false _ (c .before .grown .ensures) (c .if1 .left) refl))
 
 pub tally-spec : {M : Type 1} → statement M
 tally-spec =

@@ -1,55 +1,67 @@
-use borrow.Author.Needs.{needs}
+-- `action_at` reads three numbers in a row. Assumes nothing.
 use mathlib.Core.Path.{_∙_}
-use Rattle.rule_tree.proofs.Comparing.{action-told}
+use Rattle.rule_tree.proofs.HeldActions as law
+use borrow.Author.Needs.{needs}
 use Rattle.rule_tree.proofs.inner.equal.action_at.Statement.{statement}
 use Rattle.rule_tree.proofs.inner.equal.action_at.Tie as tie
-use Rattle.rule_tree.proofs.inner.equal.action_at.Reads as reads
-use Rattle.rule_tree.proofs.inner.equal.action_at.Lts as lts
-use Rattle.remy.proofs.action.Action.new.Reads as new-reads
 
--- src/inner/equal.rt:110:22
 mul-multiplier : tie.Need-mul-multiplier
 mul-multiplier c = search needs
 
--- src/inner/equal.rt:110:22
+mul-multiplier-2 : tie.Need-mul-multiplier-2
+mul-multiplier-2 c = search needs
+
 element-copy-out-multiplier : tie.Need-element-copy-out-multiplier
 element-copy-out-multiplier c = search needs
 
--- src/inner/equal.rt:111:21
-mul-increment : tie.Need-mul-increment
-mul-increment c = search needs
+mul-to-i32 : tie.Need-mul-to-i32
+mul-to-i32 c = search needs
 
--- src/inner/equal.rt:111:21
-element-copy-out-increment : tie.Need-element-copy-out-increment
-element-copy-out-increment c = search needs
+add-to-i32 : tie.Need-add-to-i32
+add-to-i32 c = search needs
 
--- src/inner/equal.rt:112:17
+mul-to-i32-2 : tie.Need-mul-to-i32-2
+mul-to-i32-2 c = search needs
+
+element-copy-out-to-i32 : tie.Need-element-copy-out-to-i32
+element-copy-out-to-i32 c = search needs
+
+to-i32-requires : tie.Need-to-i32-requires
+to-i32-requires c κs = search needs
+
 mul-delay : tie.Need-mul-delay
 mul-delay c = search needs
 
--- src/inner/equal.rt:112:17
+add-delay : tie.Need-add-delay
+add-delay c = search needs
+
+mul-delay-2 : tie.Need-mul-delay-2
+mul-delay-2 c = search needs
+
 element-copy-out-delay : tie.Need-element-copy-out-delay
 element-copy-out-delay c = search needs
 
--- src/inner/equal.rt:113:5
 new-requires : tie.Need-new-requires
 new-requires c κs = search needs
 
--- src/inner/equal.rt:104:1
 returns : tie.Need-returns
-returns c =
-    c .new .ensures
-    ∙ action-told (c .before .before .before .before .args .multipliers .now) (c .before .before .before .before .args .increments .now) (c .before .before .before .before .args .delays .now) (c .before .before .before .before .args .i) (record { sfits = c .before .before .increment .given })
+returns c = c .new .ensures ∙ law.increment-read (c .before .before .before .before .before .args .actions .now) (c .before .before .before .before .before .args .i) (c .before .before .to-i32 .result) (c .before .before .to-i32 .ensures)
 
 pub action-at-spec : {M : Type 1} → statement M
 action-at-spec =
     tie.close
     (tie.spec
     mul-multiplier
+    mul-multiplier-2
     element-copy-out-multiplier
-    mul-increment
-    element-copy-out-increment
+    mul-to-i32
+    add-to-i32
+    mul-to-i32-2
+    element-copy-out-to-i32
+    to-i32-requires
     mul-delay
+    add-delay
+    mul-delay-2
     element-copy-out-delay
     new-requires
     returns)

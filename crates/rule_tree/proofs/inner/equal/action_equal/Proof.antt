@@ -1,7 +1,7 @@
 -- `action_equal` compares part by part. Assumes nothing.
 use borrow.Author.Tests.{eq-eqb, ne-eqb}
 use Rattle.rule_tree.specs.Equal.{actionEqual}
-use Rattle.rule_tree.proofs.Comparing as law
+use Rattle.remy.proofs.Chains as law
 use Rattle.rule_tree.proofs.inner.equal.action_equal.Statement.{statement}
 use Rattle.rule_tree.proofs.inner.equal.action_equal.Tie as tie
 

@@ -2,6 +2,7 @@
 use borrow.Author.Needs.{needs}
 use mathlib.Core.Path.{_∙_}
 use lib.ListN.{length-map}
+use Rattle.rule_tree.specs.Nodes.{slots}
 use Rattle.rule_tree.proofs.EqualWays.{of-copies}
 use Rattle.rule_tree.proofs.inner.equal.equal.Statement.{statement}
 use Rattle.rule_tree.proofs.inner.equal.equal.Tie as tie
@@ -9,26 +10,14 @@ use Rattle.rule_tree.proofs.inner.equal.equal.Tie as tie
 children-of-requires : tie.Need-children-of-requires
 children-of-requires c κs = search needs
 
-multipliers-requires : tie.Need-multipliers-requires
-multipliers-requires c κs = search needs
-
-increments-requires : tie.Need-increments-requires
-increments-requires c κs = search needs
-
-delays-requires : tie.Need-delays-requires
-delays-requires c κs = search needs
+actions-of-requires : tie.Need-actions-of-requires
+actions-of-requires c κs = search needs
 
 children-of-requires-2 : tie.Need-children-of-requires-2
 children-of-requires-2 c κs = search needs
 
-multipliers-requires-2 : tie.Need-multipliers-requires-2
-multipliers-requires-2 c κs = search needs
-
-increments-requires-2 : tie.Need-increments-requires-2
-increments-requires-2 c κs = search needs
-
-delays-requires-2 : tie.Need-delays-requires-2
-delays-requires-2 c κs = search needs
+actions-of-requires-2 : tie.Need-actions-of-requires-2
+actions-of-requires-2 c κs = search needs
 
 root-requires : tie.Need-root-requires
 root-requires c κs = search needs
@@ -41,24 +30,20 @@ node-equal-requires c κs = search needs
 
 returns : tie.Need-returns
 returns c =
-    let roots = c .before .before .before .before .before .before .before .before .before in
-    let copies = c .before .before .before .before .before .before .before .before .before .before .before .before .before in
-    let start = c .before .before .before .before .before .before .before .before .before .before .before .before .before .before .before .before .before .before .before .before .before in
+    let roots = c .before .before .before .before .before in
+    let copies = c .before .before .before .before .before .before .before .before .before in
+    let start = c .before .before .before .before .before .before .before .before .before .before .before .before .before in
     c .node-equal .ensures
-    ∙ of-copies 513 0 0
+    ∙ of-copies slots 0 0
     (record {
       long = simp length-map at (start .good .0 .1 .1 .0 .1 .0 .1);
-      links = copies .before .before .before .before .before .before .before .children-of .ensures;
-      multipliers = copies .before .before .before .before .before .before .multipliers .ensures;
-      increments = copies .before .before .before .before .before .increments .ensures;
-      delays = copies .before .before .before .before .delays .ensures;
+      links = copies .before .before .before .children-of .ensures;
+      actions = copies .before .before .actions-of .ensures;
     })
     (record {
       long = simp length-map at (start .good .1 .0 .1 .1 .0 .1 .0 .1);
-      links = copies .before .before .before .children-of2 .ensures;
-      multipliers = copies .before .before .multipliers2 .ensures;
-      increments = copies .before .increments2 .ensures;
-      delays = copies .delays2 .ensures;
+      links = copies .before .children-of2 .ensures;
+      actions = copies .actions-of2 .ensures;
     })
     (roots .before .root .ensures)
     (roots .root2 .ensures)
@@ -68,13 +53,9 @@ equal-spec =
     tie.close
     (tie.spec
     children-of-requires
-    multipliers-requires
-    increments-requires
-    delays-requires
+    actions-of-requires
     children-of-requires-2
-    multipliers-requires-2
-    increments-requires-2
-    delays-requires-2
+    actions-of-requires-2
     root-requires
     root-requires-2
     node-equal-requires

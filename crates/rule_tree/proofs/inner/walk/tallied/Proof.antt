@@ -1,38 +1,20 @@
 -- `tallied` meets its contract. Assumes nothing.
+use mathlib.Core.Path.{sym, _∙_}
 use mathlib.Core.Bool.{true, false}
 use Prim.Native.Nat.{_<_}
 use native.Mathlib.Omega.{arith}
 use lib.ListN.{length}
 use borrow.Author.Needs.{needs}
-use Rattle.remy.specs.Cube.{rootOf, Whole}
-use Rattle.rule_tree.proofs.Walking.{Leaf}
-use Rattle.rule_tree.specs.Nodes.{childrenOf}
-use Rattle.rule_tree.proofs.Links.{grown-whole}
 use Rattle.rule_tree.proofs.Counting.{counts-accepted}
 use Rattle.rule_tree.proofs.Looking as law
 use Rattle.rule_tree.proofs.inner.walk.tallied.Statement.{statement}
 use Rattle.rule_tree.proofs.inner.walk.tallied.Tie as tie
 
-whole : (c : tie.Start) → Whole (rootOf (c .args .t .ends))
-whole c = grown-whole (c .args .t) (c .pre .0) (record { acks = search needs; sends = search needs; ratios = search needs })
-
-inside : (c : tie.After-children-of)
-    → law.Inside (c .before .before .before .before .before .before .before .before .before .args .t) (c .before .before .before .before .before .before .before .before .before .args .p) (c .children-of .result) (c .before .before .before .before .before .before .root .result)
-inside c =
-    let t = c .before .before .before .before in
-    law.entered _ _ _ _ (t .before .contains .result) (c .children-of .ensures) (t .before .before .root .ensures) (t .before .contains .ensures) (t .if1 .taken)
-
-leaf : (c : tie.After-walk)
-    → Leaf (childrenOf (c .before .before .before .before .before .before .before .before .before .before .before .args .t .nodes)) (c .before .before .before .before .before .before .before .before .before .before .before .args .t .splits) (c .walk .result)
-leaf c =
-    let s = c .before .before .before .before .before .before .before .before .before .before .before in
-    law.ends-leaf (s .args .t) (s .args .p) _ _ (s .pre .0) (whole s) (inside (c .before .before)) (c .walk .result) (c .walk .ensures)
-
-below : (c : tie.After-walk) → c .walk .result .node < length (c .before .before .before .before .before .before .before .before .before .before .before .args .counts .now)
+below : (c : tie.After-leaf-at) → c .leaf-at .result < length (c .before .before .before .before .before .before .before .before .before .args .counts .now)
 below c =
-    let s = c .before .before .before .before .before .before .before .before .before .before .before in
+    let s = c .before .before .before .before .before .before .before .before .before in
     let n = counts-accepted (s .args .t) (s .args .counts .now) (s .pre .1) .one-a-node in
-    let l = leaf c .node in
+    let l = c .leaf-at .ensures .1 in
     omega arith
 
 root-requires : tie.Need-root-requires
@@ -44,13 +26,10 @@ contains-requires c κs = search needs
 capped-total-requires : tie.Need-capped-total-requires
 capped-total-requires c κs = search needs
 
-children-of-requires : tie.Need-children-of-requires
-children-of-requires c κs = search needs
-
-walk-requires : tie.Need-walk-requires
-walk-requires c κs =
-    let s = c .before .before .before .before .before .before .before .before .before .before in
-    law.walk-ready (s .args .t) (s .args .p) _ _ (s .pre .0) (whole s) (inside (c .before))
+leaf-at-requires : tie.Need-leaf-at-requires
+leaf-at-requires c κs =
+    let t = c .before .before .before in
+    (c .before .before .before .before .before .before .before .before .pre .0, t .before .before .root .ensures, sym (t .before .contains .ensures) ∙ t .if1 .taken)
 
 cast-i : tie.Need-cast-i
 cast-i c = search needs
@@ -63,9 +42,9 @@ slice-read-counts c = below (c .before)
 
 add-counts : tie.Need-add-counts
 add-counts c =
-    let t = c .before .before .before .before in
+    let t = c .before .before in
     let s = t .before .before .before .before .before .before .before .before in
-    record { fits = law.count-small (s .args .counts .now) (c .before .walk .result .node) (below (c .before)) (let e = t .before .capped-total .ensures in let m = t .if2 .taken in omega arith) }
+    record { fits = law.count-small (s .args .counts .now) (c .before .leaf-at .result) (below (c .before)) (let e = t .before .capped-total .ensures in let m = t .if2 .taken in omega arith) }
 
 mul-counts-2 : tie.Need-mul-counts-2
 mul-counts-2 c = search needs
@@ -78,13 +57,13 @@ same-length c = search needs
 
 returns : tie.Need-returns
 returns c =
-    let w = c .before in
-    let t = w .before .before .before in
+    let l = c .before in
+    let t = l .before in
+    let b = t .before .before .before in
     let s = t .before .before .before .before .before .before .before .before in
-    let i = inside (w .before .before) in
-    let e = law.tally-counted (s .args .t) (s .args .counts .now) (s .args .p) (s .pre .0) (s .pre .1) (i .inside) (t .before .capped-total .result) (t .before .capped-total .ensures) (t .if2 .taken)
-    (w .walk .result) (law.walked (s .args .t) (s .args .p) _ _ (s .pre .0) (whole s) i (w .walk .result) (w .walk .ensures)) in
-    (e, law.counted-leaf (s .args .counts .now) _ (w .walk .result .node) e)
+    let e = law.tally-counted (s .args .t) (s .args .counts .now) (s .args .p) (s .pre .0) (s .pre .1) (law.contained (s .args .t) (s .args .p) _ (b .before .contains .result) true (b .before .before .root .ensures) (b .before .contains .ensures) (b .if1 .taken))
+    (t .before .capped-total .result) (t .before .capped-total .ensures) (t .if2 .taken) (l .leaf-at .result) (l .leaf-at .ensures .0) in
+    (e, law.counted-leaf (s .args .counts .now) _ (l .leaf-at .result) e)
 
 same-length-2 : tie.Need-same-length-2
 same-length-2 c = search needs
@@ -110,8 +89,7 @@ tallied-spec =
     root-requires
     contains-requires
     capped-total-requires
-    children-of-requires
-    walk-requires
+    leaf-at-requires
     cast-i
     mul-counts
     slice-read-counts

@@ -3,13 +3,13 @@ use mathlib.Core.Path.{_≡_, refl}
 use mathlib.Core.Bool.{Bool, true, false, cond, _&&_}
 use mathlib.Core.List.{List, [], _∷_}
 use Prim.Native.Nat.{ℕ}
-use Rattle.quantities.specs.Guards.{Test, test, guarded, firstOf, passes}
+use Rattle.refusal.specs.Guards.{Test, test, guarded, firstOf, passes}
 
-either : {A : Type 0} (P : A → Type 0) (b : Bool) {x y : A} → P x → P y → P (cond b x y)
+pub either : {A : Type 0} (P : A → Type 0) (b : Bool) {x y : A} → P x → P y → P (cond b x y)
 either P true p q = p
 either P false p q = q
 
-both : {A B : Type 0} (P : A → B → Type 0) (b : Bool) {x y : A} {m k : B} → P x m → P y k → P (cond b x y) (cond b m k)
+pub both : {A B : Type 0} (P : A → B → Type 0) (b : Bool) {x y : A} {m k : B} → P x m → P y k → P (cond b x y) (cond b m k)
 both P true p q = p
 both P false p q = q
 
