@@ -1,26 +1,19 @@
--- Nodes gathered from a slice one by one, and what lookup in them answers. Assumes nothing.
+-- Links gathered from a slice one by one, and the ways of the functions that count and test them. Assumes nothing.
 use mathlib.Core.Path.{_≡_, refl, sym, ap, _∙_}
 use mathlib.Core.Bool.{Bool, true, false, not, cond}
-use mathlib.Core.List.{List, [], _∷_, _++_, append-nil}
+use mathlib.Core.List.{List, [], _∷_, map, _++_}
 use Prim.Native.Nat.{ℕ, zero, suc, _+_, _<_, _≤_}
 use native.Mathlib.Numerals.{add-one}
 use native.Mathlib.Omega.{arith}
-use borrow.Author.Tests.{eqb-true, eq-eqb, ne-eqb}
-use lib.Dec.{eqb}
-use lib.ListN.{length, getD, set, take, drop, length-replicate, drop-of-length-le}
-use lib.Seq.{take-all}
-use Rattle.remy.specs.declared.action.Action.{Action}
-use Rattle.remy.specs.declared.point.Point.{Point}
+use borrow.Author.Tests.{eq-eqb, ne-eqb, le-leb, lt-leb, leb-true, lt-ltb, le-ltb}
+use lib.Dec.{eqb, leb}
+use lib.ListN.{length, getD, set, take, drop, length-map, length-replicate, replicate}
+use Rattle.remy.specs.Action.{validOf}
 use Rattle.rule_tree.specs.declared.Node.{Node}
-use Rattle.remy.specs.Cube.{usualEnds}
-use Rattle.rule_tree.specs.declared.RuleTree.{RuleTree}
-use Rattle.rule_tree.specs.declared.Looked.{Looked}
-use Rattle.rule_tree.specs.declared.Looked.the-variants as looked
 use Rattle.rule_tree.specs.Lists.{countBelow}
-use Rattle.rule_tree.specs.Nodes.{noNode, nodeAt, isLeaf, blankNode}
-use Rattle.rule_tree.specs.Calls.{replacedOf}
-use Rattle.rule_tree.proofs.Lists.{countBelow-le}
-use Rattle.rule_tree_view.specs.View.{blankNodes, countOf, gatheredOf, viewedTree, answerOf, viewOf}
+use Rattle.rule_tree.specs.Nodes.{blankNode}
+use Rattle.rule_tree.proofs.Lists.{countBelow-yes, countBelow-no}
+use Rattle.rule_tree_view.specs.View.{linkOf, linksOf, countOf, leafAmong}
 
 -- ---- the first i elements of a list laid over another
 laid-suc : {A : Type 0} (xs ys : List A) (i : ℕ) (d : A) → i < length xs → i < length ys
@@ -30,61 +23,64 @@ laid-suc (x ∷ xs) [] i d l m = absurd (omega arith)
 laid-suc (x ∷ xs) (y ∷ ys) zero d l m = refl
 laid-suc (x ∷ xs) (y ∷ ys) (suc i) d l m = ap (λ zs. x ∷ zs) (laid-suc xs ys i d (omega arith) (omega arith))
 
-pub gathered-none : (nodes : List Node) → blankNodes ≡ gatheredOf nodes 0
-unfolding gatheredOf
-gathered-none nodes = refl
+-- an element that is there, whatever stands for those that are not
+pub mapped-at : {A B : Type 0} (f : A → B) (xs : List A) (i : ℕ) (d : A) (e : B) → i < length xs → getD (map f xs) i e ≡ f (getD xs i d)
+mapped-at f [] i d e l = absurd (omega arith)
+mapped-at f (x ∷ xs) zero d e l = refl
+mapped-at f (x ∷ xs) (suc i) d e l = mapped-at f xs i d e (omega arith)
 
-pub gathered-more : (nodes : List Node) (i : ℕ) → i < length nodes → i < 513
-    → set (gatheredOf nodes i) i (nodeAt nodes i) ≡ gatheredOf nodes (i + 1)
-unfolding gatheredOf
-gathered-more nodes i l m =
-    laid-suc nodes blankNodes i noNode l (omega (arith, length-replicate 513 blankNode)) ∙ ap (λ k. take k nodes ++ drop k blankNodes) (sym (add-one i))
+pub links-none : (nodes : List Node) → replicate 513 0 ≡ linksOf nodes 0
+unfolding linksOf
+links-none nodes = refl
 
-pub gathered-all : (nodes : List Node) → length nodes ≡ 513 → gatheredOf nodes 513 ≡ nodes
-unfolding gatheredOf
-gathered-all nodes e =
-    rw (take-all 513 nodes (omega arith), blanks-gone) (append-nil nodes)
-  where
-    blanks-gone : drop 513 blankNodes ≡ []
-    blanks-gone = drop-of-length-le blankNodes {i = 513} (omega (arith, length-replicate 513 blankNode))
+pub links-more : (nodes : List Node) (i : ℕ) → i < length nodes → i < 513
+    → set (linksOf nodes i) i (linkOf (getD nodes i blankNode)) ≡ linksOf nodes (i + 1)
+unfolding linksOf
+links-more nodes i l m =
+    ap (set (take i (map linkOf nodes) ++ drop i (replicate 513 0)) i) (sym (mapped-at linkOf nodes i blankNode 0 l))
+    ∙ laid-suc (map linkOf nodes) (replicate 513 0) i 0 (omega (arith, length-map nodes linkOf)) (omega (arith, length-replicate {A = ℕ} 513 0))
+    ∙ ap (λ k. take k (map linkOf nodes) ++ drop k (replicate 513 0)) (sym (add-one i))
 
 -- ---- how many are gathered
-pub count-whole : (n : ℕ) → n ≡ 513 → 513 ≡ countOf n
+pub count-in : (n : ℕ) → n ≤ 513 → n ≡ countOf n
 unfolding countOf
-count-whole n e = rw (eq-eqb n 513 e)
+count-in n l = rw (le-leb n 513 l)
+
+pub count-out : (n : ℕ) → 513 < n → 0 ≡ countOf n
+unfolding countOf
+count-out n l = rw (lt-leb n 513 l)
 
 pub count-fits : (n : ℕ) → (countOf n ≤ n) × (countOf n ≤ 513)
 unfolding countOf
-count-fits n = go (eqb n 513) refl
+count-fits n = go (leb n 513) refl
   where
-    go : (b : Bool) → eqb n 513 ≡ b → (cond b 513 0 ≤ n) × (cond b 513 0 ≤ 513)
-    go true e = let h = eqb-true n 513 e in (omega arith, omega arith)
+    go : (b : Bool) → leb n 513 ≡ b → (cond b n 0 ≤ n) × (cond b n 0 ≤ 513)
+    go true e = let h = leb-true n 513 e in (omega arith, omega arith)
     go false e = (omega arith, omega arith)
 
--- ---- the tree that nodes make, and lookup in it
-pub parents-fit : (f : ℕ → Bool) (n : ℕ) → n ≡ countBelow 513 f → n < 65536
-parents-fit f n e = omega (arith, countBelow-le 513 f)
+-- ---- one node's link
+pub link-valid : (x : Node) (b : Bool) → b ≡ validOf (x .action) → b ≡ true → x .children ≡ linkOf x
+unfolding linkOf
+link-valid x b e h = rw (← e, h)
 
-pub tree-made : (nodes : List Node) (n : ℕ) (e : Point) → e ≡ usualEnds → n ≡ countBelow 513 (λ i. not (isLeaf nodes i))
-    → _≡_ {A = RuleTree} (record { nodes = nodes; splits = n; ends = e }) (viewedTree nodes)
-tree-made nodes n e p q = λ j. record { nodes = nodes; splits = q j; ends = p j }
+pub link-invalid : (x : Node) (b : Bool) → b ≡ validOf (x .action) → b ≡ false → 65535 ≡ linkOf x
+unfolding linkOf
+link-invalid x b e h = rw (← e, h)
 
-pub answer-whole : (n : ℕ) (nodes : List Node) (leaf : ℕ) (a : Action) (p : Point) (t : RuleTree) (r : Looked) → n ≡ 513 → t ≡ viewedTree nodes
-    → r ≡ replacedOf (record { tree = t; leaf = leaf; action = a }) p → r ≡ answerOf n nodes leaf a p
-unfolding answerOf
-answer-whole n nodes leaf a p t r e f g = rw (eq-eqb n 513 e, ← f) g
+-- ---- how many links there are
+pub link-counts : (cs : List ℕ) (i x : ℕ) → (getD cs i 0 ≡ 0 → ⊥)
+    → x ≡ countBelow i (λ j. not (eqb (getD cs j 0) 0)) → x + 1 ≡ countBelow (i + 1) (λ j. not (eqb (getD cs j 0) 0))
+link-counts cs i x n h =
+    let e = countBelow-yes i (λ j. not (eqb (getD cs j 0) 0)) (ap not (ne-eqb (getD cs i 0) 0 n)) in omega arith
 
-pub answer-other : (n : ℕ) (nodes : List Node) (leaf : ℕ) (a : Action) (p : Point) → (n ≡ 513 → ⊥) → looked.Refused 10 ≡ answerOf n nodes leaf a p
-unfolding answerOf
-answer-other n nodes leaf a p e = rw (ne-eqb n 513 e)
+pub none-counts : (cs : List ℕ) (i x : ℕ) → getD cs i 0 ≡ 0
+    → x ≡ countBelow i (λ j. not (eqb (getD cs j 0) 0)) → x ≡ countBelow (i + 1) (λ j. not (eqb (getD cs j 0) 0))
+none-counts cs i x z h =
+    let e = countBelow-no i (λ j. not (eqb (getD cs j 0) 0)) (ap not (eq-eqb (getD cs i 0) 0 z)) in omega arith
 
--- ---- lookup in the nodes gathered from a slice is lookup through the view
-pub answer-viewed : (nodes : List Node) (leaf : ℕ) (a : Action) (p : Point)
-    → answerOf (length nodes) (gatheredOf nodes (countOf (length nodes))) leaf a p ≡ viewOf nodes leaf a p
-unfolding answerOf viewOf countOf
-answer-viewed nodes leaf a p = go (eqb (length nodes) 513) refl
-  where
-    go : (b : Bool) → eqb (length nodes) 513 ≡ b
-        → answerOf (length nodes) (gatheredOf nodes (countOf (length nodes))) leaf a p ≡ viewOf nodes leaf a p
-    go true e = rw (e, gathered-all nodes (eqb-true _ _ e))
-    go false e = rw e
+-- ---- a number that names a leaf
+pub leaf-in : (cs : List ℕ) (n leaf : ℕ) → leaf < n → eqb (getD cs leaf 0) 0 ≡ leafAmong cs n leaf
+leaf-in cs n leaf l = rw (lt-ltb leaf n l)
+
+pub leaf-out : (cs : List ℕ) (n leaf : ℕ) → n ≤ leaf → false ≡ leafAmong cs n leaf
+leaf-out cs n leaf l = rw (le-ltb leaf n l)

@@ -17,7 +17,7 @@ use Rattle.rule_tree.proofs.Links as links
 use Rattle.rule_tree.proofs.Owners.{same-or-not, below-or-not}
 
 -- ---- counts of two tests
-count-same : (m : ℕ) (f g : ℕ → Bool) → ((i : ℕ) → i < m → f i ≡ g i) → countBelow m f ≡ countBelow m g
+pub count-same : (m : ℕ) (f g : ℕ → Bool) → ((i : ℕ) → i < m → f i ≡ g i) → countBelow m f ≡ countBelow m g
 unfolding countBelow
 count-same zero f g h = refl
 count-same (suc m) f g h =

@@ -1,48 +1,94 @@
 -- 01: "lookup through the tree with one leaf's action replaced": through "a small struct holding the lent node slice, the leaf number and the other action".
-use mathlib.Core.Bool.{cond, not}
-use mathlib.Core.List.{List, _++_}
-use Prim.Native.Nat.{ℕ}
-use lib.ListN.{length, take, drop, replicate}
-use lib.Dec.{eqb}
+use mathlib.Core.Bool.{Bool, not, _&&_, cond}
+use mathlib.Core.List.{List, [], _∷_, map, _++_}
+use Prim.Native.Nat.{ℕ, _-_}
+use lib.ListN.{length, getD, take, drop, replicate}
+use lib.Dec.{eqb, leb, ltb}
 use denote.Ref.{RefT}
+use Rattle.refusal.specs.Numbers.{noLeaf, notAdmitted, notGrown}
+use Rattle.refusal.specs.Guards.{test, guarded}
 use Rattle.remy.specs.declared.action.Action.{Action}
 use Rattle.remy.specs.declared.point.Point.{Point}
-use Rattle.remy.specs.Cube.{usualEnds}
+use Rattle.remy.specs.Action.{validOf}
+use Rattle.remy.specs.Cube.{rootOf, containsOf, usualEnds}
 use Rattle.rule_tree.specs.declared.Node.{Node}
 use Rattle.rule_tree.specs.declared.RuleTree.{RuleTree}
 use Rattle.rule_tree.specs.declared.Looked.{Looked}
 use Rattle.rule_tree.specs.declared.Looked.the-variants as looked
 use Rattle.rule_tree.specs.Lists.{countBelow}
-use Rattle.rule_tree.specs.Nodes.{isLeaf, blankNode}
+use Rattle.rule_tree.specs.Nodes.{isLeaf, blankNode, nodeCount}
+use Rattle.rule_tree.specs.Grown.{linkedOf}
+use Rattle.rule_tree.specs.Walk.{walkOf}
 use Rattle.rule_tree.specs.Calls.{replacedOf}
 use Rattle.rule_tree_view.specs.declared.AugmentedView.{AugmentedView}
+use Rattle.rule_tree_view.specs.declared.Told.{Told}
+use Rattle.rule_tree_view.specs.declared.Told.the-variants.{At, Known}
 
 -- the view of a slice
 abbrev pub viewWith : RefT (List Node) → ℕ → Action → AugmentedView
 viewWith nodes leaf a = record { nodes = nodes; leaf = leaf; action = a }
 
--- the tree whose nodes a view holds: as many splits as there are parents, the usual ends
-abbrev pub viewedTree : List Node → RuleTree
-viewedTree nodes = record { nodes = nodes; splits = countBelow 513 (λ i. not (isLeaf nodes i)); ends = usualEnds }
+-- how many of a slice's nodes are parents
+abbrev pub parentsIn : List Node → ℕ
+parentsIn nodes = countBelow (length nodes) (λ i. not (isLeaf nodes i))
 
--- lookup through a view: 10, 3, 1; a slice that is not the 513 nodes of a grown tree is refused with 10
+-- the tree that uses these nodes: blank ones after them, as many splits as there are parents, the usual ends
+abbrev pub lentTree : List Node → RuleTree
+lentTree nodes =
+    record { nodes = nodes ++ replicate (513 - length nodes) blankNode; splits = parentsIn nodes; ends = usualEnds }
+
+-- lookup through a tree with one leaf's action replaced: 10, 3, 1
+abbrev pub replacedIn : RuleTree → ℕ → Action → Point → Looked
+replacedIn t leaf a p = replacedOf (record { tree = t; leaf = leaf; action = a }) p
+
+-- lookup through a view: 10, 3, 1; "10 a tree .. or node slice, not grown from the root leaf by splits or holding what the record's rules exclude": a slice
+-- has the 1 + 8 s nodes that s splits make, s being its parents, and is no more than these
 unfoldable pub viewOf : List Node → ℕ → Action → Point → Looked
 viewOf nodes leaf a p =
-    cond (eqb (length nodes) 513) (replacedOf (record { tree = viewedTree nodes; leaf = leaf; action = a }) p) (looked.Refused 10)
+    guarded (test (eqb (length nodes) (nodeCount (parentsIn nodes))) notGrown ∷ []) looked.Refused
+    (replacedIn (lentTree nodes) leaf a p)
 
 -- ---- what the private functions of the code are held to
--- how many nodes of a slice of n are gathered
+-- a node's link: its first child, and where its action is not valid, what is no node's first child
+unfoldable pub linkOf : Node → ℕ
+linkOf x = cond (validOf (x .action)) (x .children) 65535
+
+-- the links of the first n nodes, and none after them
+unfoldable pub linksOf : List Node → ℕ → List ℕ
+unfolding linkOf
+linksOf nodes n = take n (map linkOf nodes) ++ drop n (replicate 513 0)
+
+-- how many nodes of a slice are read
 unfoldable pub countOf : ℕ → ℕ
-countOf n = cond (eqb n 513) 513 0
+countOf n = cond (leb n 513) n 0
 
-abbrev pub blankNodes : List Node
-blankNodes = replicate 513 blankNode
+-- how many nodes have a link
+abbrev pub linkedParents : List ℕ → ℕ
+linkedParents cs = countBelow 513 (λ i. not (eqb (getD cs i 0) 0))
 
--- the first n nodes, and blank ones after them
-unfoldable pub gatheredOf : List Node → ℕ → List Node
-gatheredOf nodes n = take n nodes ++ drop n blankNodes
+-- a number names a leaf of n nodes
+abbrev pub leafAmong : List ℕ → ℕ → ℕ → Bool
+leafAmong cs n leaf = ltb leaf n && eqb (getD cs leaf 0) 0
 
--- lookup in the nodes gathered from a slice of n
-unfoldable pub answerOf : ℕ → List Node → ℕ → Action → Point → Looked
-answerOf n nodes leaf a p =
-    cond (eqb n 513) (replacedOf (record { tree = viewedTree nodes; leaf = leaf; action = a }) p) (looked.Refused 10)
+-- where a point's way ends
+unfoldable pub reachedOf : List ℕ → ℕ → Action → Point → Told
+reachedOf cs leaf a p =
+    let i = walkOf cs (rootOf usualEnds) p .node in
+    cond (containsOf (rootOf usualEnds) p) (cond (eqb i leaf) (Known (looked.Found a)) (At i)) (Known looked.Nothing)
+
+-- what the links of a slice of n nodes tell of a lookup
+unfoldable pub toldOf : ℕ → List ℕ → ℕ → Action → Point → Told
+unfolding reachedOf
+toldOf n cs leaf a p =
+    let s = linkedParents cs in
+    guarded (test (eqb n (nodeCount s) && linkedOf cs s) notGrown ∷ test (leafAmong cs n leaf) noLeaf ∷ test (validOf a) notAdmitted ∷ [])
+    (λ k. Known (looked.Refused k)) (reachedOf cs leaf a p)
+
+-- the node that is read, and the answer with it
+unfoldable pub placeOf : Told → ℕ
+placeOf (At i) = i
+placeOf (Known r) = 0
+
+unfoldable pub answerOf : Told → Node → Looked
+answerOf (At i) x = looked.Found (x .action)
+answerOf (Known r) x = r

@@ -1,12 +1,14 @@
 // The tree with one leaf's action replaced, seen through a lent slice of its nodes.
 ghost use mathlib.Core.Path.{_≡_};
-ghost use Prim.Native.Nat.{_≤_, _<_};
-ghost use lib.ListN.{length, set};
-ghost use Rattle.rule_tree.specs.Nodes.{nodeAt};
-ghost use Rattle.rule_tree_view.specs.View.{viewWith, blankNodes, countOf, gatheredOf, viewedTree, answerOf, viewOf};
+ghost use mathlib.Core.Bool.{true};
+ghost use Prim.Native.Nat.{_≤_, min};
+ghost use lib.ListN.{length, getD, take, replicate};
+ghost use Rattle.rule_tree.specs.Nodes.{blankNode};
+ghost use Rattle.rule_tree.specs.Grown.{linkedOf};
+ghost use Rattle.rule_tree_view.specs.View.{viewWith, viewOf, replacedIn, linkOf, linksOf, countOf, linkedParents, leafAmong, reachedOf, toldOf, placeOf, answerOf};
 use remy::action::Action;
+use remy::cube::Cube;
 use remy::point::Point;
-use rule_tree::AugmentedRuleTree;
 use rule_tree::Looked;
 use rule_tree::Node;
 use rule_tree::RuleTree;
@@ -17,83 +19,171 @@ pub struct AugmentedView<'a> {
     pub action: Action,
 }
 
-// How many nodes of a slice are gathered: all of 513, else none.
+// What the links tell of a lookup: the node whose action is the answer, or the answer.
+enum Told {
+    At(usize),
+    Known(Looked),
+}
+
+fn blank() -> Node
+    ensures { λ r. ⌜ r ≡ blankNode ⌝ }
+{
+    let none = Action::new(0.0, 0, 0.0);
+    Node {
+        action: none,
+        children: 0,
+        optimized: false,
+    }
+}
+
+// Node i of a slice, a blank one past its end.
+fn node_at(nodes: &[Node], i: usize) -> Node
+    ensures { λ r. ⌜ r ≡ getD (now (nodes .entry)) i blankNode ⌝ }
+{
+    if i < nodes.len() {
+        return nodes[i];
+    }
+    blank()
+}
+
+// A node's first child, 0 for a leaf; 65535, which is no node's first child, where its action is not valid.
+fn link_of(x: Node) -> u16
+    ensures { λ r. ⌜ r ≡ linkOf x ⌝ }
+{
+    let a = x.action;
+    if a.valid() {
+        return x.children;
+    }
+    65535
+}
+
+fn no_links() -> [u16; 513]
+    ensures { λ r. ⌜ r ≡ replicate 513 0 ⌝ }
+{
+    [0u16; 513]
+}
+
+// How many nodes of a slice are read: none of one that is too long for a tree.
 fn count(len: usize) -> usize
     ensures { λ r. ⌜ r ≡ countOf len ⌝ }
 {
-    if len == 513 {
-        return 513;
+    if len <= 513 {
+        return len;
     }
     0
 }
 
-fn blank_nodes() -> [Node; 513]
-    ensures { λ r. ⌜ r ≡ blankNodes ⌝ }
-{
-    let none = Action::new(0.0, 0, 0.0);
-    let blank = Node {
-        action: none,
-        children: 0,
-        optimized: false,
-    };
-    [blank; 513]
-}
-
-fn put(nodes: [Node; 513], i: usize, x: Node) -> [Node; 513]
-    requires { ⌜ i < 513 ⌝ }
-    ensures { λ r. ⌜ r ≡ set nodes i x ⌝ }
-{
-    let mut out = nodes;
-    out[i] = x;
-    out
-}
-
-fn node_at(nodes: &[Node], i: usize) -> Node
-    requires { ⌜ i < length (now nodes) ⌝ }
-    ensures { λ r. ⌜ r ≡ nodeAt (now (nodes .entry)) i ⌝ }
-{
-    nodes[i]
-}
-
-// The first n nodes of a slice, and blank ones after them.
-fn gather(nodes: &[Node], n: usize) -> [Node; 513]
+// The links of a slice's first n nodes, and no links after them.
+fn gather(nodes: &[Node], n: usize) -> [u16; 513]
     requires { ⌜ (n ≤ length (now nodes)) × (n ≤ 513) ⌝ }
-    ensures { λ r. ⌜ r ≡ gatheredOf (now (nodes .entry)) n ⌝ }
+    ensures { λ r. ⌜ r ≡ linksOf (now (nodes .entry)) n ⌝ }
 {
-    let mut out = blank_nodes();
+    let mut links = no_links();
     let mut i: usize = 0;
     while i < n {
         let x = node_at(nodes, i);
-        out = put(out, i, x);
+        links[i] = link_of(x);
         i += 1;
     }
-    out
+    links
 }
 
-// The tree that nodes make: as many splits as there are parents, the usual ends.
-fn tree_of(nodes: [Node; 513]) -> RuleTree
-    ensures { λ r. ⌜ r ≡ viewedTree nodes ⌝ }
+fn parent_count(links: &[u16; 513]) -> u16
+    ensures { λ r. ⌜ r ≡ linkedParents (now (links .entry)) ⌝ }
 {
-    let ends = Point::usual_ends();
-    let mut tree = RuleTree {
-        nodes,
-        splits: 0,
-        ends,
-    };
-    tree.splits = rule_tree::inner::links::num_parents(tree) as u16;
-    tree
-}
-
-// Lookup in the nodes gathered from a slice of n.
-fn answer(n: usize, nodes: [Node; 513], leaf: u16, action: Action, p: Point) -> Looked
-    ensures { λ r. ⌜ r ≡ answerOf n nodes leaf action p ⌝ }
-{
-    if n == 513 {
-        let tree = tree_of(nodes);
-        let a = AugmentedRuleTree { tree, leaf, action };
-        return a.action(p);
+    let mut n: u16 = 0;
+    let mut i: usize = 0;
+    while i < 513 {
+        if links[i] != 0 {
+            n += 1;
+        }
+        i += 1;
     }
-    Looked::Refused(10)
+    n
+}
+
+// A number names a leaf of n nodes.
+fn is_leaf(links: &[u16; 513], n: usize, leaf: u16) -> bool
+    requires { ⌜ n ≤ 513 ⌝ }
+    ensures { λ r. ⌜ r ≡ leafAmong (now (links .entry)) n leaf ⌝ }
+{
+    let at = leaf as usize;
+    if at < n {
+        return links[at] == 0;
+    }
+    false
+}
+
+// Where p's way ends, by links that were tested.
+fn reached(links: &[u16; 513], s: u16, leaf: u16, action: Action, p: Point) -> Told
+    requires { ⌜ linkedOf (now links) s ≡ true ⌝ }
+    ensures { λ r. ⌜ r ≡ reachedOf (now (links .entry)) leaf action p ⌝ }
+{
+    let e = Point::usual_ends();
+    let root = Cube::root(e);
+    if root.contains(p) {
+        let node = rule_tree::inner::walk::walk(links, root, p).node;
+        if node == leaf {
+            let found = Looked::Found(action);
+            return Told::Known(found);
+        }
+        return Told::At(node as usize);
+    }
+    let none = Looked::Nothing;
+    Told::Known(none)
+}
+
+// What the links of a slice of n nodes tell of a lookup with the leaf's action replaced.
+fn tell(n: usize, links: [u16; 513], leaf: u16, action: Action, p: Point) -> Told
+    ensures { λ r. ⌜ r ≡ toldOf n links leaf action p ⌝ }
+{
+    let s = parent_count(&links);
+    if n == 1 + 8 * (s as usize) {
+        if rule_tree::inner::links::linked(&links, s) {
+            if is_leaf(&links, n, leaf) {
+                if action.valid() {
+                    return reached(&links, s, leaf, action, p);
+                }
+                let one = Looked::Refused(refusal::NOT_ADMITTED);
+                return Told::Known(one);
+            }
+            let three = Looked::Refused(refusal::NO_LEAF);
+            return Told::Known(three);
+        }
+    }
+    let ten = Looked::Refused(refusal::NOT_GROWN);
+    Told::Known(ten)
+}
+
+// The node that is read: where none has to be, the first.
+fn place_of(told: Told) -> usize
+    ensures { λ r. ⌜ r ≡ placeOf told ⌝ }
+{
+    match told {
+        Told::At(i) => i,
+        Told::Known(_) => 0,
+    }
+}
+
+fn answer_of(told: Told, x: Node) -> Looked
+    ensures { λ r. ⌜ r ≡ answerOf told x ⌝ }
+{
+    match told {
+        Told::At(_) => {
+            let a = x.action;
+            Looked::Found(a)
+        }
+        Told::Known(r) => r,
+    }
+}
+
+// The answer, with the one node that it needs read from the slice.
+fn answer(nodes: &[Node], told: Told) -> Looked
+    ensures { λ r. ⌜ r ≡ answerOf told (getD (now (nodes .entry)) (placeOf told) blankNode) ⌝ }
+{
+    let i = place_of(told);
+    let x = node_at(nodes, i);
+    answer_of(told, x)
 }
 
 impl<'a> AugmentedView<'a> {
@@ -112,15 +202,38 @@ impl<'a> AugmentedView<'a> {
     {
         let n = self.nodes.len();
         let k = count(n);
-        let nodes = gather(self.nodes, k);
-        answer(n, nodes, self.leaf, self.action, p)
+        let links = gather(self.nodes, k);
+        let told = tell(n, links, self.leaf, self.action, p);
+        answer(self.nodes, told)
     }
 }
 
-// Lookup through a view of nodes that are the caller's own.
-pub fn looked_through(nodes: [Node; 513], leaf: u16, action: Action, p: Point) -> Looked
-    ensures { λ r. ⌜ r ≡ viewOf nodes leaf action p ⌝ }
+fn at_most(n: usize) -> usize
+    ensures { λ r. ⌜ r ≡ min n 513 ⌝ }
 {
-    let view = AugmentedView::new(&nodes, leaf, action);
+    if n <= 513 {
+        return n;
+    }
+    513
+}
+
+// Lookup through a view of the first n of nodes that are the caller's own.
+pub fn looked_part(nodes: [Node; 513], n: usize, leaf: u16, action: Action, p: Point) -> Looked
+    ensures { λ r. ⌜ r ≡ viewOf (take n nodes) leaf action p ⌝ }
+{
+    let k = at_most(n);
+    let view = AugmentedView::new(&nodes[..k], leaf, action);
     view.action(p)
+}
+
+// Lookup in a tree with one leaf's action replaced, through a view of the nodes that it uses.
+pub fn looked_through(tree: RuleTree, leaf: u16, action: Action, p: Point) -> Looked
+    ensures { λ r. ⌜ r ≡ replacedIn tree leaf action p ⌝ }
+{
+    if tree.grown() {
+        let nodes = tree.nodes;
+        let n = 1 + 8 * (tree.splits as usize);
+        return looked_part(nodes, n, leaf, action, p);
+    }
+    Looked::Refused(refusal::NOT_GROWN)
 }

@@ -1,4 +1,4 @@
-// Lookups through a view of a tree's nodes with one leaf's action replaced, and what is refused, printed.
+// Lookups through a view of the nodes that a tree uses, with one leaf's action replaced, and what is refused, printed.
 use libc::STDOUT_FILENO;
 use remy::action::Action;
 use remy::point::Point;
@@ -32,58 +32,113 @@ fn show(r: Looked) {
     say(b"\n");
 }
 
-// The root split, and its leaf 3.
-fn tree() -> RuleTree {
+// One leaf: 1 node.
+fn fresh() -> RuleTree {
     let a = Action::new(1.0, 7, 0.0);
     let made = RuleTree::new(a);
-    let fresh = made.tree;
-    let once = fresh.split(0);
-    let one = once.tree;
-    let twice = one.split(3);
-    twice.tree
+    made.tree
 }
 
-fn look(nodes: [Node; 513], leaf: u16, action: Action, p: Point) {
-    show(rule_tree_view::looked_through(nodes, leaf, action, p));
+// The root split: 9 nodes.
+fn once() -> RuleTree {
+    let t = fresh();
+    let s = t.split(0);
+    s.tree
 }
 
-// A point in leaf 9, one in leaf 11, one in leaf 1 and one outside.
-fn points(nodes: [Node; 513], leaf: u16, action: Action) {
+// The root split, and its leaf 3: 17 nodes.
+fn twice() -> RuleTree {
+    let t = once();
+    let s = t.split(3);
+    s.tree
+}
+
+fn look(tree: RuleTree, leaf: u16, action: Action, p: Point) {
+    show(rule_tree_view::looked_through(tree, leaf, action, p));
+}
+
+// With two splits a point in leaf 9, one in leaf 11, one in leaf 1 and one outside.
+fn points(tree: RuleTree, leaf: u16, action: Action) {
     say(b"(0, 300, 0): ");
-    look(nodes, leaf, action, Point::new(0.0, 300.0, 0.0));
+    look(tree, leaf, action, Point::new(0.0, 300.0, 0.0));
     say(b"(0, 450, 0): ");
-    look(nodes, leaf, action, Point::new(0.0, 450.0, 0.0));
+    look(tree, leaf, action, Point::new(0.0, 450.0, 0.0));
     say(b"(0, 0, 0): ");
-    look(nodes, leaf, action, Point::new(0.0, 0.0, 0.0));
+    look(tree, leaf, action, Point::new(0.0, 0.0, 0.0));
     say(b"(0, 0, 1000): ");
-    look(nodes, leaf, action, Point::new(0.0, 0.0, 1000.0));
+    look(tree, leaf, action, Point::new(0.0, 0.0, 1000.0));
 }
 
-fn refusals(nodes: [Node; 513], action: Action) {
+// The point (0, 0, 0) through the first n nodes of an array.
+fn part(nodes: [Node; 513], n: usize, leaf: u16, action: Action) {
+    number(n as u64);
+    say(b" nodes: ");
+    show(rule_tree_view::looked_part(nodes, n, leaf, action, Point::new(0.0, 0.0, 0.0)));
+}
+
+fn lengths(nodes: [Node; 513], leaf: u16, action: Action) {
+    part(nodes, 0, leaf, action);
+    part(nodes, 1, leaf, action);
+    part(nodes, 2, leaf, action);
+    part(nodes, 8, leaf, action);
+    part(nodes, 9, leaf, action);
+    part(nodes, 10, leaf, action);
+    part(nodes, 17, leaf, action);
+    part(nodes, 513, leaf, action);
+    part(nodes, 514, leaf, action);
+}
+
+fn refusals(tree: RuleTree, action: Action) {
     let p = Point::new(0.0, 300.0, 0.0);
     let bad = Action::new(0.0 / 0.0, 0, 0.0);
     say(b"in leaf 3, which is a parent: ");
-    look(nodes, 3, action, p);
+    look(tree, 3, action, p);
     say(b"in leaf 17, which is no node: ");
-    look(nodes, 17, action, p);
+    look(tree, 17, action, p);
     say(b"in leaf 9, no action: ");
-    look(nodes, 9, bad, p);
+    look(tree, 9, bad, p);
     say(b"in leaf 3, no action: ");
-    look(nodes, 3, bad, p);
+    look(tree, 3, bad, p);
+}
+
+// What the last node that is lent holds, and the first that is not.
+fn payloads(nodes: [Node; 513], action: Action) {
+    let bad = Action::new(0.0 / 0.0, 0, 0.0);
+    let none = Node {
+        action: bad,
+        children: 0,
+        optimized: false,
+    };
     let mut wrong = nodes;
-    wrong[17] = nodes[9];
-    say(b"a slot past the last node holds an action: ");
-    look(wrong, 9, action, p);
+    wrong[8] = none;
+    say(b"the last node's action is none: ");
+    part(wrong, 9, 1, action);
+    let mut beyond = nodes;
+    beyond[9] = none;
+    say(b"the action of a node that is not lent is none: ");
+    part(beyond, 9, 1, action);
 }
 
 fn main() {
-    let t = tree();
-    let nodes = t.nodes;
     let nine = Action::new(1.0, 9, 0.0);
-    say(b"-- action 9 in leaf 9\n");
-    points(nodes, 9, nine);
-    say(b"-- action 9 in leaf 1\n");
-    points(nodes, 1, nine);
+    let leaf = fresh();
+    let one = once();
+    let two = twice();
+    say(b"-- one leaf, action 9 in leaf 0\n");
+    points(leaf, 0, nine);
+    say(b"-- one split, action 9 in leaf 3\n");
+    points(one, 3, nine);
+    say(b"-- two splits, action 9 in leaf 9\n");
+    points(two, 9, nine);
+    say(b"-- two splits, action 9 in leaf 1\n");
+    points(two, 1, nine);
     say(b"-- refused\n");
-    refusals(nodes, nine);
+    refusals(two, nine);
+    say(b"-- parts of one leaf's array\n");
+    let nodes = leaf.nodes;
+    lengths(nodes, 0, nine);
+    say(b"-- parts of one split's array\n");
+    let nodes = one.nodes;
+    lengths(nodes, 1, nine);
+    payloads(nodes, nine);
 }
