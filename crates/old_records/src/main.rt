@@ -4,7 +4,7 @@ ghost use Rattle.io.specs.Counts.{Counts};
 use libc::STDIN_FILENO;
 use libc::STDOUT_FILENO;
 use record::Saved;
-use record::inner::read;
+use wire::inner::read;
 
 // n, or the number of the bytes where that is less.
 fn within(n: usize, bytes: &[u8]) -> usize

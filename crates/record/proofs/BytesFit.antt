@@ -1,12 +1,10 @@
 -- The settings and the trainer that bytes stand for fit their types. Assumes nothing.
 use mathlib.Core.Path.{_≡_, sym, ap, subst}
 use mathlib.Core.Bool.{Bool, true, false, cond}
-use mathlib.Core.List.{List, [], _∷_}
-use Prim.Native.Nat.{ℕ, zero, suc, _+_, _*_, _^_, _<_}
-use native.Mathlib.Nat.{pow-suc}
+use mathlib.Core.List.{List}
+use Prim.Native.Nat.{ℕ, suc, _+_}
 use native.Mathlib.Omega.{arith}
 use lib.Dec.{T, ltb}
-use lib.ListN.{getD, take, drop}
 use lib.Ieee.{binary64, fits}
 use lib.Ieee.Bits.{ofBits-fits}
 use mir.Syntax.{w32}
@@ -20,41 +18,17 @@ use Rattle.trainer.specs.declared.Trainer.{Trainer}
 use Rattle.trainer.specs.declared.Answered.{Answered}
 use Rattle.trainer.specs.Phases.{refuse, taken}
 use Rattle.trainer.specs.Calls.{blankTrainer}
-use Rattle.record.specs.Bytes.{valueFrom, numberAt}
+use Rattle.wire.specs.Bytes.{numberAt}
 use Rattle.record.specs.declared.inner.layout.Layout.{Layout}
 use Rattle.record.specs.Layout.{layoutOf, givenAction, listPlace, statePlace}
-use Rattle.record.specs.Read.{actionAt, flagAt, settingsAt, pointAt, endsAt, splitCount, linkOf, carriedAt, payloadPlace, nodeAtPlace, readIn, versionAt, readOf}
+use Rattle.wire.specs.Fields.{actionAt, flagAt, pointAt}
+use Rattle.record.specs.Read.{settingsAt, endsAt, splitCount, linkOf, carriedAt, payloadPlace, nodeAtPlace, readIn, versionAt, readOf}
 use Rattle.record.specs.Calls.{lengthHolds, versionHolds, bodyHolds, loadOf}
-use Rattle.record.proofs.Bytes.{below-most}
+use Rattle.record.proofs.NumbersAgain.{Bytes, number-below}
 use Rattle.record.proofs.Stands.{SettingsFits}
 use Rattle.record.proofs.RoundTrip.{TrainerFits}
 
--- ---- bytes
--- every element is a byte
-abbrev pub Bytes : List ℕ → Type 0
-Bytes xs = (i : ℕ) → getD xs i 0 < 256
-
-drop-bytes : (k : ℕ) (xs : List ℕ) → Bytes xs → Bytes (drop k xs)
-drop-bytes zero xs h = h
-drop-bytes (suc k) [] h = h
-drop-bytes (suc k) (x ∷ xs) h = drop-bytes k xs (λ i. h (suc i))
-
--- at most n bytes after a number below 256 ^ m give one below 256 ^ (m + n)
-value-below : (n m acc : ℕ) (xs : List ℕ) → Bytes xs → acc < 256 ^ m → valueFrom acc (take n xs) < 256 ^ (m + n)
-unfolding valueFrom
-value-below zero m acc xs h l = below-most m (m + 0) acc l (omega arith)
-value-below (suc n) m acc [] h l = below-most m (m + suc n) acc l (omega arith)
-value-below (suc n) m acc (x ∷ xs) h l =
-    let p : 256 ^ suc m ≡ 256 ^ m * 256 = pow-suc 256 m in
-    let b = h zero in
-    subst (λ (k : ℕ). valueFrom (acc * 256 + x) (take n xs) < 256 ^ k) (let e : suc m + n ≡ m + suc n = omega arith in e)
-    (value-below n (suc m) (acc * 256 + x) xs (λ i. h (suc i)) (omega arith))
-
-number-below : (bytes : List ℕ) (at n : ℕ) → Bytes bytes → numberAt bytes at n < 256 ^ n
-number-below bytes at n h =
-    subst (λ (k : ℕ). numberAt bytes at n < 256 ^ k) (let e : 0 + n ≡ n = omega arith in e)
-    (value-below n 0 0 (drop at bytes) (drop-bytes at bytes h) (omega arith))
-
+-- ---- settings
 action-fits : (bytes : List ℕ) (at : ℕ) → Bytes bytes → ActionFits (actionAt bytes at)
 action-fits bytes at h =
     record {

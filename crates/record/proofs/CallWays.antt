@@ -17,13 +17,13 @@ use Rattle.trainer.specs.Phases.{refuse, taken}
 use Rattle.trainer.specs.Calls.{blankTrainer}
 use Rattle.record.specs.declared.Saved.the-variants.{Size, Refused}
 use Rattle.record.specs.declared.inner.layout.Layout.{Layout}
-use Rattle.record.specs.Bytes.{numberAt, sameBytes}
+use Rattle.wire.specs.Bytes.{numberAt, sameBytes}
 use Rattle.record.specs.Layout.{layoutOf, knownOf, sizeIn}
 use Rattle.record.specs.Write.{version, recordIn, recordOf}
 use Rattle.record.specs.Read.{splitCount, trainerAt, readIn, versionAt, readOf}
 use Rattle.record.specs.Calls.{saveOf, bufferAfter, lengthHolds, versionHolds, againOf, bodyHolds, loadOf}
 use Rattle.record.specs.Parts.{bodyTaken}
-use Rattle.record.proofs.Bytes.{false-of}
+use Rattle.wire.proofs.Bytes.{false-of}
 use Rattle.record.proofs.Layouts.{size-most}
 use Rattle.record.proofs.Size.{record-size}
 use Rattle.record.proofs.Loading.{accepted-grown}

@@ -17,12 +17,12 @@ use Rattle.trainer.specs.Settings.{settingsHold}
 use Rattle.trainer.specs.State.{acceptedOf, phaseHolds}
 use Rattle.trainer.specs.Phases.{refuse, taken}
 use Rattle.trainer.specs.Calls.{blankTrainer}
-use Rattle.record.specs.Bytes.{bytesOf, numberAt, sameBytes}
+use Rattle.wire.specs.Bytes.{bytesOf, numberAt, sameBytes}
 use Rattle.record.specs.Layout.{layoutOf, knownOf}
 use Rattle.record.specs.Write.{version, bodyIn, recordIn, recordOf}
 use Rattle.record.specs.Read.{versionAt, readIn, readOf}
 use Rattle.record.specs.Calls.{lengthHolds, versionHolds, againOf, bodyHolds, loadOf}
-use Rattle.record.proofs.Bytes.{bytes-count, same-self, same-is}
+use Rattle.wire.proofs.Bytes.{bytes-count, same-self, same-is}
 use Rattle.record.proofs.Size.{body-size, record-size, record-small}
 use Rattle.record.proofs.Stands.{stands-all, first, next, number-back, byte-back}
 use Rattle.record.proofs.RoundTrip.{TrainerFits, Carried, carried-parents, read-back}

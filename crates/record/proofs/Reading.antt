@@ -10,14 +10,10 @@ use native.Mathlib.Omega.{arith}
 use borrow.Author.Tests.{eq-eqb, ne-eqb, lt-ltb, le-ltb}
 use lib.ListN.{length, getD, set, replicate, length-set, length-replicate, getD-replicate}
 use lib.Seq.{getD-set-same, getD-set-other, ext-getD}
-use lib.IntN.{ℤ}
 use lib.Ieee.{Float}
-use mir.Syntax.{w32}
-use mir.Val.{toZ}
 use Rattle.remy.specs.declared.action.Action.{Action}
 use Rattle.remy.specs.declared.point.Point.{Point}
-use Rattle.remy.specs.Action.{actionOf}
-use Rattle.remy.specs.Cube.{pointOf, usualEnds}
+use Rattle.remy.specs.Cube.{usualEnds}
 use Rattle.rule_tree.specs.declared.Node.{Node}
 use Rattle.rule_tree.specs.declared.RuleTree.{RuleTree}
 use Rattle.rule_tree.specs.Lists.{tabulate, countBelow}
@@ -27,9 +23,10 @@ use Rattle.rule_tree.proofs.Owners.{same-or-not, below-or-not}
 use Rattle.trainer.specs.declared.settings.Settings.{Settings}
 use Rattle.trainer.specs.declared.Trainer.{Trainer}
 use Rattle.record.specs.declared.inner.layout.Layout.{Layout}
-use Rattle.record.specs.Bytes.{numberAt}
+use Rattle.wire.specs.Bytes.{numberAt}
 use Rattle.record.specs.Layout.{carries, givenAction, listPlace, nodesPlace, statePlace}
-use Rattle.record.specs.Read.{floatAt, actionAt, flagAt, settingsAt, pointAt, endsAt, treeAt, stateAt, trainerAt, splitAtPlace, linkOf, carriedAt, payloadPlace, nodeWith, nodeAtPlace}
+use Rattle.wire.specs.Fields.{floatAt, actionAt, flagAt, pointAt}
+use Rattle.record.specs.Read.{settingsAt, endsAt, treeAt, stateAt, trainerAt, splitAtPlace, linkOf, carriedAt, payloadPlace, nodeWith, nodeAtPlace}
 use Rattle.record.proofs.Layouts.{ends-few}
 
 -- ---- the links after the first k splits
@@ -168,17 +165,7 @@ module _ (lay : Layout) (bytes : List ℕ) (at : ℕ) where
   pub ends-given : {p : Point} → lay .ends ≡ false → p ≡ usualEnds → p ≡ endsAt lay bytes at
   ends-given z e = e ∙ ap (λ (b : Bool). cond b (pointAt bytes at) usualEnds) (sym z)
 
-pub point-read : (bytes : List ℕ) (at : ℕ) {a s r : Float} {p : Point} → p ≡ pointOf a s r → a ≡ floatAt bytes at → s ≡ floatAt bytes (at + 8)
-    → r ≡ floatAt bytes (at + 16) → p ≡ pointAt bytes at
-point-read bytes at e x y z = e ∙ (λ j. record { «ack_ewma» = record { 0 = x j }; «send_ewma» = record { 0 = y j }; «rtt_ratio» = z j })
-
--- ---- an action, the settings, the trainer: from their fields
-pub action-read : (bytes : List ℕ) (at : ℕ) {m d : Float} {i : ℤ} {w : ℕ} {r : Action} → r ≡ actionOf m i d → m ≡ floatAt bytes at → i ≡ toZ w32 w
-    → w ≡ numberAt bytes (at + 8) 4 → d ≡ floatAt bytes (at + 12) → r ≡ actionAt bytes at
-action-read bytes at e p q s t =
-    let z = q ∙ ap (toZ w32) s in
-    e ∙ (λ j. record { «window_multiplier» = p j; «window_increment» = z j; «intersend_delay» = record { 0 = t j } })
-
+-- ---- the settings, the trainer: from their fields
 pub settings-read : (bytes : List ℕ) (at : ℕ) {a b c : ℕ} {d : Bool} {e f g h k : Action} → a ≡ numberAt bytes at 4 → b ≡ numberAt bytes (at + 4) 4
     → c ≡ numberAt bytes (at + 8) 4 → d ≡ flagAt bytes (at + 12) → e ≡ actionAt bytes (at + 13) → f ≡ actionAt bytes (at + 33)
     → g ≡ actionAt bytes (at + 53) → h ≡ actionAt bytes (at + 73) → k ≡ actionAt bytes (at + 93)

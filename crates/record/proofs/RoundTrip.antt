@@ -5,7 +5,6 @@ use mathlib.Core.Bool.{Bool, true, false, _||_, cond}
 use mathlib.Core.List.{List, [], _∷_, _++_}
 use mathlib.Core.Logic.{⊎-elim}
 use Prim.Native.Nat.{ℕ, zero, suc, _+_, _*_, _/_, _^_, _<_, _≤_}
-use native.Mathlib.Nat.{eq-or-lt-of-le}
 use native.Mathlib.Omega.{arith}
 use lib.Dec.{T, eqb}
 use lib.Ieee.{binary64, fits}
@@ -24,15 +23,18 @@ use Rattle.rule_tree.proofs.Links as links
 use Rattle.rule_tree_laws.proofs.Sound.{kids, TreeFits, Sound, grown-sound}
 use Rattle.trainer.specs.declared.Trainer.{Trainer}
 use Rattle.record.specs.declared.inner.layout.Layout.{Layout}
-use Rattle.record.specs.Bytes.{bytesOf}
-use Rattle.record.specs.Layout.{carries, givenAction, endsSize, nodesIn, listPlace, nodesPlace, statePlace}
-use Rattle.record.specs.Write.{floatBytes, settingsBytes, numbersBytes, splitsBytes, pointBytes, endBytes, nodeBytes, actionBytes, payloadBytes, stateBytes, bodyIn, recordIn}
+use Rattle.wire.specs.Bytes.{bytesOf}
+use Rattle.record.specs.Layout.{carries, givenAction, endsSize, listPlace, nodesPlace, statePlace}
+use Rattle.wire.specs.Fields.{floatBytes, pointBytes, actionBytes}
+use Rattle.record.specs.Write.{numbersBytes, nodeBytes, stateBytes, recordIn}
 use Rattle.record.specs.Read.{settingsAt, endsAt, splitCount, splitAtPlace, linkOf, carriedAt, payloadPlace, nodeAtPlace, treeAt, trainerAt, readIn}
-use Rattle.record.proofs.Bytes.{bytes-count, never}
-use Rattle.record.proofs.Reading.{node-is, unused-is, node-read, node-given, ends-read, ends-given, tree-given, tree-read, trainer-read, link-suc-hit, link-suc-miss}
-use Rattle.record.proofs.Writing.{settings-count, action-count}
-use Rattle.record.proofs.Size.{carried, ends-count, splits-count, nodes-length, few}
-use Rattle.record.proofs.Stands.{Stands, stands-all, moved, first, next, onward, number-back, byte-back, flag-back, float-back, action-back, point-back, list-stands, node-stands, SettingsFits, settings-back}
+use Rattle.wire.proofs.Bytes.{bytes-count, never}
+use Rattle.record.proofs.Reading.{node-is, unused-is, node-read, node-given, ends-read, ends-given, tree-given, tree-read, trainer-read}
+use Rattle.record.proofs.Writing.{action-count}
+use Rattle.record.proofs.Size.{carried, few}
+use Rattle.record.proofs.LinksRead.{link-leaf, link-last}
+use Rattle.record.proofs.Places.{settings-place, ends-place, splits-place, nodes-place, state-place}
+use Rattle.record.proofs.Stands.{Stands, moved, first, next, onward, number-back, byte-back, flag-back, float-back, action-back, point-back, list-stands, node-stands, SettingsFits, settings-back}
 
 -- the values of a trainer fit their types, as in every trainer that a program holds
 pub record TrainerFits (t : Trainer) : Type 0 where
@@ -52,35 +54,12 @@ pub record Carried (lay : Layout) (t : Trainer) : Type 0 where
       → nodeAt (t .tree .nodes) i ≡ record { action = givenAction (t .settings); children = kids (t .tree) i; optimized = false }
   pub ends : lay .ends ≡ false → t .tree .ends ≡ usualEnds
 
--- ---- the links that a list of splits gives
-link-first : (bytes : List ℕ) (list i : ℕ) → linkOf bytes list 0 i ≡ 0
-unfolding linkOf
-link-first bytes list i = refl
-
-link-nowhere : (bytes : List ℕ) (list n i : ℕ) → ((k : ℕ) → k < n → splitAtPlace bytes list k ≡ i → ⊥) → linkOf bytes list n i ≡ 0
-link-nowhere bytes list zero i h = link-first bytes list i
-link-nowhere bytes list (suc n) i h = link-suc-miss bytes list n i (h n (omega arith)) ∙ link-nowhere bytes list n i (λ k l. h k (omega arith))
-
-link-once : (bytes : List ℕ) (list n i k : ℕ) → k < n → splitAtPlace bytes list k ≡ i → ((m : ℕ) → m < n → splitAtPlace bytes list m ≡ i → m ≡ k)
-    → linkOf bytes list n i ≡ 8 * k + 1
-link-once bytes list zero i k l e h = absurd (omega arith)
-link-once bytes list (suc n) i k l e h =
-    ⊎-elim (λ (p : k ≡ n). link-suc-hit bytes list n i (subst (λ (m : ℕ). splitAtPlace bytes list m ≡ i) p e) ∙ ap (λ (m : ℕ). 8 * m + 1) (sym p))
-    (λ (q : k < n).
-    link-suc-miss bytes list n i (λ z. let w : n ≡ k = h n (omega arith) z in omega arith)
-    ∙ link-once bytes list n i k q e (λ m b. h m (omega arith)))
-    (eq-or-lt-of-le (let q : k ≤ n = omega arith in q))
-
 module _ (lay : Layout) (v : ℕ) (t : Trainer) (f : TrainerFits t) (g : grownOf (t .tree) ≡ true) (can : Carried lay t) where
   full : length (t .tree .nodes) ≡ 513
   full = f .tree .full
 
   sound : Sound (t .tree)
   sound = grown-sound (t .tree) (f .tree) g
-
-  -- ---- where the parts stand
-  abbrev nodes : List ℕ
-  nodes = payloadBytes lay (t .tree .nodes) (nodeCount (t .tree .splits))
 
   abbrev bytes : List ℕ
   bytes = recordIn lay v t
@@ -91,44 +70,12 @@ module _ (lay : Layout) (v : ℕ) (t : Trainer) (f : TrainerFits t) (g : grownOf
   abbrev list : ℕ
   list = listPlace lay
 
-  body-stands : Stands bytes 4 (bodyIn lay v t)
-  unfolding recordIn
-  body-stands = next bytes 0 4 (bytesOf 4 (length (bodyIn lay v t))) (bodyIn lay v t) (bytes-count 4 (length (bodyIn lay v t))) (stands-all (recordIn lay v t))
-
-  after-version : Stands bytes 5 (settingsBytes (t .settings) ++ (endBytes lay (t .tree) ++ (splitsBytes (t .tree) ++ (nodes ++ stateBytes t))))
-  after-version =
-      next bytes 4 1 (v ∷ []) (settingsBytes (t .settings) ++ (endBytes lay (t .tree) ++ (splitsBytes (t .tree) ++ (nodes ++ stateBytes t)))) refl body-stands
-
-  after-settings : Stands bytes 118 (endBytes lay (t .tree) ++ (splitsBytes (t .tree) ++ (nodes ++ stateBytes t)))
-  after-settings =
-      next bytes 5 113 (settingsBytes (t .settings)) (endBytes lay (t .tree) ++ (splitsBytes (t .tree) ++ (nodes ++ stateBytes t))) (settings-count (t .settings)) after-version
-
-  ends-stand : Stands bytes 118 (endBytes lay (t .tree))
-  ends-stand = first bytes 118 (endBytes lay (t .tree)) (splitsBytes (t .tree) ++ (nodes ++ stateBytes t)) after-settings
-
-  after-ends : Stands bytes (118 + endsSize lay) (splitsBytes (t .tree) ++ (nodes ++ stateBytes t))
-  after-ends = next bytes 118 (endsSize lay) (endBytes lay (t .tree)) (splitsBytes (t .tree) ++ (nodes ++ stateBytes t)) (ends-count lay (t .tree)) after-settings
-
-  splits-stand : Stands bytes (118 + endsSize lay) (splitsBytes (t .tree))
-  splits-stand = first bytes (118 + endsSize lay) (splitsBytes (t .tree)) (nodes ++ stateBytes t) after-ends
-
-  after-splits : Stands bytes (nodesPlace lay s) (nodes ++ stateBytes t)
-  after-splits =
-      moved bytes (118 + endsSize lay + (2 + 2 * s)) (nodesPlace lay s) (nodes ++ stateBytes t) (omega arith)
-      (next bytes (118 + endsSize lay) (2 + 2 * s) (splitsBytes (t .tree)) (nodes ++ stateBytes t) (splits-count (t .tree) (few (t .tree) g full)) after-ends)
-
-  nodes-stand : Stands bytes (nodesPlace lay s) nodes
-  nodes-stand = first bytes (nodesPlace lay s) nodes (stateBytes t) after-splits
-
-  state-stands : Stands bytes (statePlace lay s) (stateBytes t)
-  state-stands = next bytes (nodesPlace lay s) (21 * nodesIn lay s) nodes (stateBytes t) (nodes-length lay v t g full) after-splits
-
   -- ---- the splits
   count-back : splitCount lay bytes ≡ s
   count-back =
       let l = few (t .tree) g full in
       number-back bytes (118 + endsSize lay) 2 s (omega arith)
-      (first bytes (118 + endsSize lay) (bytesOf 2 s) (numbersBytes (take s (splitNodes (childrenOf (t .tree .nodes))))) splits-stand)
+      (first bytes (118 + endsSize lay) (bytesOf 2 s) (numbersBytes (take s (splitNodes (childrenOf (t .tree .nodes))))) (splits-place lay v t g full))
 
   split-back : (k : ℕ) (l : k < s) → splitAtPlace bytes list k ≡ links.grown-owner (t .tree) g full k l .at
   split-back k l =
@@ -140,7 +87,7 @@ module _ (lay : Layout) (v : ℕ) (t : Trainer) (f : TrainerFits t) (g : grownOf
       number-back bytes (list + 2 * k) 2 (getD (take s ps) k 0) (omega (arith, o .low))
       (list-stands bytes list k (take s ps) (omega arith)
       (moved bytes (118 + endsSize lay + 2) list (numbersBytes (take s ps)) (omega arith)
-      (next bytes (118 + endsSize lay) 2 (bytesOf 2 s) (numbersBytes (take s ps)) (bytes-count 2 s) splits-stand)))
+      (next bytes (118 + endsSize lay) 2 (bytesOf 2 s) (numbersBytes (take s ps)) (bytes-count 2 s) (splits-place lay v t g full))))
       ∙ e
 
   owner-kids : (k : ℕ) (l : k < s) → kids (t .tree) (links.grown-owner (t .tree) g full k l .at) ≡ 8 * k + 1
@@ -154,7 +101,7 @@ module _ (lay : Layout) (v : ℕ) (t : Trainer) (f : TrainerFits t) (g : grownOf
   link-back i l =
       ⊎-elim
       (λ (z : kids (t .tree) i ≡ 0).
-      link-nowhere bytes list s i (λ k b e. let w = split-kids k i b e in omega arith) ∙ sym z)
+      link-leaf bytes list s i (λ k b e. let w = split-kids k i b e in omega arith) ∙ sym z)
       (λ (n : kids (t .tree) i ≡ 0 → ⊥).
       let c = kids (t .tree) i in
       let h = sound .link i l n in
@@ -162,8 +109,8 @@ module _ (lay : Layout) (v : ℕ) (t : Trainer) (f : TrainerFits t) (g : grownOf
       let b : c / 8 < s = omega (arith, h .first, h .inside) in
       let o = links.grown-owner (t .tree) g full (c / 8) b in
       let same : o .at ≡ i = sound .only i (o .at) l (omega (arith, o .low, few (t .tree) g full)) n (owner-kids (c / 8) b ∙ sym q) in
-      link-once bytes list s i (c / 8) b (split-back (c / 8) b ∙ same)
-      (λ m d e. let w = split-kids m i d e in omega arith)
+      link-last bytes list s i (c / 8) b (split-back (c / 8) b ∙ same)
+      (λ m p d e. let w = split-kids m i d e in omega arith)
       ∙ sym q)
       (same-or-not (kids (t .tree) i) 0)
 
@@ -196,7 +143,7 @@ module _ (lay : Layout) (v : ℕ) (t : Trainer) (f : TrainerFits t) (g : grownOf
       let at = payloadPlace lay bytes s i in
       let h =
       moved bytes (nodesPlace lay s + 21 * countBelow i held) at (nodeBytes x) (sym (place-same i (omega arith)))
-      (node-stands bytes lay (nodesPlace lay s) (t .tree .nodes) i (nodeCount s) l z nodes-stand) in
+      (node-stands bytes lay (nodesPlace lay s) (t .tree .nodes) i (nodeCount s) l z (nodes-place lay v t g full)) in
       let a = action-back bytes at (x .action) (f .tree .actions i b) (first bytes at (actionBytes (x .action)) (_ ∷ []) h) in
       let d = flag-back bytes (at + 20) (x .optimized) [] (next bytes at 20 (actionBytes (x .action)) (_ ∷ []) (action-count (x .action)) h) in
       let e = sym (link-back i b) in
@@ -232,7 +179,7 @@ module _ (lay : Layout) (v : ℕ) (t : Trainer) (f : TrainerFits t) (g : grownOf
       by : (b : Bool) → lay .ends ≡ b → t .tree .ends ≡ endsAt lay bytes 118
       by true e =
           ends-read lay bytes 118 e
-          (sym (point-back bytes 118 (t .tree .ends) (f .tree .ends) (subst (λ (b : Bool). Stands bytes 118 (cond b (pointBytes (t .tree .ends)) [])) e ends-stand)))
+          (sym (point-back bytes 118 (t .tree .ends) (f .tree .ends) (subst (λ (b : Bool). Stands bytes 118 (cond b (pointBytes (t .tree .ends)) [])) e (ends-place lay v t g full))))
       by false e = ends-given lay bytes 118 e (can .ends e)
 
   tree-back : t .tree ≡ treeAt lay given bytes s
@@ -245,9 +192,12 @@ module _ (lay : Layout) (v : ℕ) (t : Trainer) (f : TrainerFits t) (g : grownOf
   settings-same : t .settings ≡ settingsAt bytes 5
   settings-same =
       settings-back bytes 5 (t .settings) (f .settings)
-      (first bytes 5 (settingsBytes (t .settings)) (endBytes lay (t .tree) ++ (splitsBytes (t .tree) ++ (nodes ++ stateBytes t))) after-version)
+      (settings-place lay v t g full)
 
   -- ---- the state
+  state-stands : Stands bytes (statePlace lay s) (stateBytes t)
+  state-stands = state-place lay v t g full
+
   trainer-back : t ≡ trainerAt lay bytes s
   trainer-back =
       let at = statePlace lay s in

@@ -22,12 +22,13 @@ use Rattle.rule_tree.proofs.Owners.{same-or-not}
 use Rattle.rule_tree.proofs.Links as links
 use Rattle.trainer.specs.declared.Trainer.{Trainer}
 use Rattle.record.specs.declared.inner.layout.Layout.{Layout}
-use Rattle.record.specs.Bytes.{bytesOf}
+use Rattle.wire.specs.Bytes.{bytesOf}
 use Rattle.record.specs.Layout.{layoutOf, carries, endsSize, nodesIn, sizeIn}
-use Rattle.record.specs.Write.{settingsBytes, splitsBytes, numbersBytes, pointBytes, endBytes, nodeBytes, payloadBytes, stateBytes, version, bodyIn, recordIn, recordOf}
+use Rattle.wire.specs.Fields.{pointBytes}
+use Rattle.record.specs.Write.{settingsBytes, splitsBytes, numbersBytes, endBytes, nodeBytes, payloadBytes, stateBytes, version, bodyIn, recordIn, recordOf}
 use Rattle.record.specs.Parts.{nodeFields}
-use Rattle.record.proofs.Bytes.{bytes-count}
-use Rattle.record.proofs.Stores.{wrote}
+use Rattle.wire.proofs.Bytes.{bytes-count}
+use Rattle.wire.proofs.Stores.{wrote}
 use Rattle.record.proofs.Layouts.{size-most, size-second}
 use Rattle.record.proofs.Writing.{settings-count, state-count, list-count, point-count}
 

@@ -22,11 +22,13 @@ use Rattle.rule_tree.specs.Nodes.{nodeAt}
 use Rattle.rule_tree.proofs.Plain.{ActionFits, PointFits}
 use Rattle.trainer.specs.declared.settings.Settings.{Settings}
 use Rattle.record.specs.declared.inner.layout.Layout.{Layout}
-use Rattle.record.specs.Bytes.{bytesOf, numberAt, flagByte}
-use Rattle.record.specs.Write.{floatBytes, actionBytes, settingsBytes, numbersBytes, pointBytes, nodeBytes, payloadBytes}
-use Rattle.record.specs.Read.{floatAt, actionAt, flagAt, settingsAt, pointAt}
+use Rattle.wire.specs.Bytes.{bytesOf, numberAt, flagByte}
+use Rattle.wire.specs.Fields.{floatBytes, actionBytes, pointBytes}
+use Rattle.record.specs.Write.{settingsBytes, numbersBytes, nodeBytes, payloadBytes}
+use Rattle.wire.specs.Fields.{floatAt, actionAt, flagAt, pointAt}
+use Rattle.record.specs.Read.{settingsAt}
 use Rattle.record.specs.Parts.{nodeFields}
-use Rattle.record.proofs.Bytes.{bytes-count, number-stands}
+use Rattle.wire.proofs.Bytes.{bytes-count, number-stands}
 use Rattle.record.proofs.Reading.{settings-read}
 use Rattle.record.proofs.Writing.{action-count, payload-suc}
 use Rattle.record.proofs.Size.{carried, payload-count}

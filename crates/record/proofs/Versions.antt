@@ -22,17 +22,19 @@ use Rattle.trainer.specs.declared.Trainer.{Trainer}
 use Rattle.trainer.specs.Phases.{taken}
 use Rattle.trainer.specs.State.{acceptedOf}
 use Rattle.record.specs.declared.inner.layout.Layout.{Layout}
-use Rattle.record.specs.Bytes.{bytesOf}
+use Rattle.wire.specs.Bytes.{bytesOf}
 use Rattle.record.specs.Layout.{layoutOf, carries, givenAction, listPlace}
 use Rattle.record.specs.Write.{recordIn, recordOf}
-use Rattle.record.specs.Read.{actionAt, flagAt, settingsAt, pointAt, splitCount, linkOf, payloadPlace, nodeAtPlace, readIn, versionAt}
+use Rattle.wire.specs.Fields.{actionAt, flagAt, pointAt}
+use Rattle.record.specs.Read.{settingsAt, splitCount, linkOf, payloadPlace, nodeAtPlace, readIn, versionAt}
 use Rattle.record.specs.Calls.{loadOf}
-use Rattle.record.proofs.Bytes.{never}
+use Rattle.wire.proofs.Bytes.{never}
 use Rattle.record.proofs.Layouts.{size-first}
 use Rattle.record.proofs.Size.{record-size}
 use Rattle.record.proofs.RoundTrip.{TrainerFits, Carried}
 use Rattle.record.proofs.Loading.{load-carried, load-saved, load-again, accepted-grown}
-use Rattle.record.proofs.BytesFit.{Bytes, loaded-is, loaded-fits}
+use Rattle.record.proofs.NumbersAgain.{Bytes}
+use Rattle.record.proofs.BytesFit.{loaded-is, loaded-fits}
 
 -- ---- a layout carries what is read in it
 -- what a node that is not written is read as

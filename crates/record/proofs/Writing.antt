@@ -10,8 +10,6 @@ use native.Mathlib.Omega.{arith}
 use lib.Ieee.{binary64, toBits}
 use lib.ListN.{length, getD, set, take, length-append}
 use lib.Seq.{sets, take-suc, length-take-le}
-use mir.Syntax.{w32}
-use mir.Val.{ofZ}
 use Rattle.remy.specs.declared.action.Action.{Action}
 use Rattle.remy.specs.declared.point.Point.{Point}
 use Rattle.rule_tree.specs.declared.Node.{Node}
@@ -21,40 +19,19 @@ use Rattle.rule_tree.specs.Cubes.{splitNodes}
 use Rattle.trainer.specs.declared.settings.Settings.{Settings}
 use Rattle.trainer.specs.declared.Trainer.{Trainer}
 use Rattle.record.specs.declared.inner.layout.Layout.{Layout}
-use Rattle.record.specs.Bytes.{bytesOf, flagByte}
+use Rattle.wire.specs.Bytes.{bytesOf, flagByte}
 use Rattle.record.specs.Layout.{carries, endsSize}
-use Rattle.record.specs.Write.{actionBytes, settingsBytes, numbersBytes, splitsBytes, pointBytes, endBytes, nodeBytes, payloadBytes, stateBytes}
+use Rattle.wire.specs.Fields.{actionBytes, pointBytes}
+use Rattle.record.specs.Write.{settingsBytes, numbersBytes, splitsBytes, endBytes, nodeBytes, payloadBytes, stateBytes}
 use Rattle.record.specs.Parts.{numberFields, actionFields, placeFields, trialFields, nodeFields}
-use Rattle.record.proofs.Bytes.{bytes-count}
-use Rattle.record.proofs.Stores.{wrote}
+use Rattle.wire.proofs.Bytes.{bytes-count}
+use Rattle.wire.proofs.Stores.{wrote}
+use Rattle.wire.proofs.Fields.{four, five}
 
 -- ---- three, four and five runs of stores, one after the other
-module _ (l : List ℕ) (at : ℕ) (x y z : List ℕ) (n m : ℕ) {l1 l2 l3 : List ℕ} where
-  pub three : l1 ≡ sets l at x → l2 ≡ sets l1 (at + n) y → l3 ≡ sets l2 (at + m) z → length x ≡ n → length (x ++ y) ≡ m
-      → l3 ≡ sets l at (x ++ (y ++ z))
-  three p q r e f = wrote l l2 at m (x ++ y) z r (wrote l l1 at n x y q p e) f ∙ ap (sets l at) (append-assoc x y z)
-
-  module _ (w : List ℕ) (o : ℕ) {l4 : List ℕ} where
-    pub four : l1 ≡ sets l at x → l2 ≡ sets l1 (at + n) y → l3 ≡ sets l2 (at + m) z → l4 ≡ sets l3 (at + o) w → length x ≡ n → length (x ++ y) ≡ m
-        → length (x ++ (y ++ z)) ≡ o → l4 ≡ sets l at (x ++ (y ++ (z ++ w)))
-    four p q r s e f g = wrote l l3 at o (x ++ (y ++ z)) w s (three p q r e f) g ∙ simp append-assoc
-
-    module _ (v : List ℕ) (k : ℕ) {l5 : List ℕ} where
-      pub five : l1 ≡ sets l at x → l2 ≡ sets l1 (at + n) y → l3 ≡ sets l2 (at + m) z → l4 ≡ sets l3 (at + o) w → l5 ≡ sets l4 (at + k) v
-          → length x ≡ n → length (x ++ y) ≡ m → length (x ++ (y ++ z)) ≡ o → length (x ++ (y ++ (z ++ w))) ≡ k
-          → l5 ≡ sets l at (x ++ (y ++ (z ++ (w ++ v))))
-      five p q r s t e f g h = wrote l l4 at k (x ++ (y ++ (z ++ w))) v t (four p q r s e f g) h ∙ simp append-assoc
-
 -- ---- an action
 pub action-count : (a : Action) → length (actionBytes a) ≡ 20
 action-count a = simp (length-append, bytes-count)
-
-pub action-written : (l : List ℕ) (at : ℕ) (a : Action) (m i d : ℕ) {l1 l2 l3 : List ℕ} → m ≡ toBits binary64 (a .«window_multiplier»)
-    → i ≡ ofZ w32 (a .«window_increment») → d ≡ toBits binary64 (a .«intersend_delay» .0)
-    → l1 ≡ sets l at (bytesOf 8 m) → l2 ≡ sets l1 (at + 8) (bytesOf 4 i) → l3 ≡ sets l2 (at + 12) (bytesOf 8 d) → l3 ≡ sets l at (actionBytes a)
-action-written l at a m i d em ei ed p q r =
-    three l at (bytesOf 8 m) (bytesOf 4 i) (bytesOf 8 d) 8 12 p q r (bytes-count 8 m) (simp (length-append, bytes-count))
-    ∙ rw (em, ei, ed)
 
 -- ---- the settings
 pub numbers-written : (l : List ℕ) (at : ℕ) (s : Settings) (b : ℕ) {l1 l2 l3 : List ℕ} → b ≡ flagByte (s .drill)
@@ -127,13 +104,6 @@ splits-written l at t cs ps {l1} {l2} ec ep p q =
 -- ---- the ends
 pub point-count : (p : Point) → length (pointBytes p) ≡ 24
 point-count p = simp (length-append, bytes-count)
-
-pub point-written : (l : List ℕ) (at : ℕ) (p : Point) (a s r : ℕ) {l1 l2 l3 : List ℕ} → a ≡ toBits binary64 (p .«ack_ewma» .0)
-    → s ≡ toBits binary64 (p .«send_ewma» .0) → r ≡ toBits binary64 (p .«rtt_ratio»)
-    → l1 ≡ sets l at (bytesOf 8 a) → l2 ≡ sets l1 (at + 8) (bytesOf 8 s) → l3 ≡ sets l2 (at + 16) (bytesOf 8 r) → l3 ≡ sets l at (pointBytes p)
-point-written l at p a s r ea es er q u w =
-    three l at (bytesOf 8 a) (bytesOf 8 s) (bytesOf 8 r) 8 16 q u w (bytes-count 8 a) (simp (length-append, bytes-count))
-    ∙ rw (ea, es, er)
 
 pub ends-written : (l : List ℕ) (at : ℕ) (lay : Layout) (t : RuleTree) {l1 : List ℕ} → lay .ends ≡ true → l1 ≡ sets l at (pointBytes (t .ends))
     → (at + 24 ≡ at + endsSize lay) × (l1 ≡ sets l at (endBytes lay t))

@@ -4,7 +4,8 @@ use mathlib.Core.List.{List, [], _∷_, _++_}
 use Prim.Native.Nat.{ℕ, _+_, _-_}
 use lib.ListN.{length, drop}
 use lib.Dec.{eqb, leb}
-use Rattle.quantities.specs.Guards.{test, guarded}
+use Rattle.refusal.specs.Numbers.{badField, badLength, notGrown, shortBuffer, unknownVersion}
+use Rattle.refusal.specs.Guards.{Test, test, guarded}
 use Rattle.trainer.specs.declared.Trainer.{Trainer}
 use Rattle.trainer.specs.declared.Answered.{Answered}
 use Rattle.trainer.specs.State.{acceptedOf}
@@ -12,15 +13,17 @@ use Rattle.trainer.specs.Phases.{refuse, taken}
 use Rattle.trainer.specs.Calls.{blankTrainer}
 use Rattle.record.specs.declared.Saved.{Saved}
 use Rattle.record.specs.declared.Saved.the-variants.{Size, Refused}
-use Rattle.record.specs.Bytes.{numberAt, sameBytes}
+use Rattle.wire.specs.Bytes.{numberAt, sameBytes}
 use Rattle.record.specs.Layout.{layoutOf, knownOf}
 use Rattle.record.specs.Write.{recordIn, recordOf}
 use Rattle.record.specs.Read.{versionAt, readOf}
 
--- save: 10, 9
+-- "9 buffer shorter than the record"
+abbrev pub saveOrder : Trainer → List ℕ → List Test
+saveOrder t buf = test (acceptedOf t) notGrown ∷ test (leb (length (recordOf t)) (length buf)) shortBuffer ∷ []
+
 unfoldable pub saveOf : Trainer → List ℕ → Saved
-saveOf t buf =
-    guarded (test (acceptedOf t) 10 ∷ test (leb (length (recordOf t)) (length buf)) 9 ∷ []) Refused (Size (length (recordOf t)))
+saveOf t buf = guarded (saveOrder t buf) Refused (Size (length (recordOf t)))
 
 -- "Writing answers the size and changes no byte past it"; a refused save changes none
 unfoldable pub bufferAfter : Trainer → List ℕ → Saved → List ℕ
@@ -44,9 +47,10 @@ againOf bytes = recordIn (layoutOf (versionAt bytes)) (versionAt bytes) (readOf 
 unfoldable pub bodyHolds : List ℕ → Bool
 bodyHolds bytes = acceptedOf (readOf bytes) && sameBytes (againOf bytes) bytes
 
--- load: 6, 7, 8
+-- "6, 7, 8"
+abbrev pub loadOrder : List ℕ → List Test
+loadOrder bytes = test (lengthHolds bytes) badLength ∷ test (versionHolds bytes) unknownVersion ∷ test (bodyHolds bytes) badField ∷ []
+
 unfoldable pub loadOf : List ℕ → Answered
 unfolding lengthHolds versionHolds bodyHolds
-loadOf bytes =
-    guarded (test (lengthHolds bytes) 6 ∷ test (versionHolds bytes) 7 ∷ test (bodyHolds bytes) 8 ∷ [])
-    (λ k. refuse k blankTrainer) (taken (readOf bytes))
+loadOf bytes = guarded (loadOrder bytes) (λ k. refuse k blankTrainer) (taken (readOf bytes))

@@ -1,6 +1,6 @@
-pub mod Bytes
 pub mod Layout
 pub mod Write
 pub mod Read
 pub mod Calls
 pub mod Parts
+pub mod Accepted

@@ -2,6 +2,7 @@
 use mathlib.Core.Bool.{cond}
 use mathlib.Core.List.{List, [], _∷_, _++_}
 use Prim.Native.Nat.{ℕ}
+use Rattle.refusal.specs.Numbers.{badField}
 use Rattle.rule_tree.specs.declared.Node.{Node}
 use Rattle.trainer.specs.declared.settings.Settings.{Settings}
 use Rattle.trainer.specs.declared.Trainer.{Trainer}
@@ -9,9 +10,10 @@ use Rattle.trainer.specs.declared.Answered.{Answered}
 use Rattle.trainer.specs.Phases.{refuse, taken}
 use Rattle.trainer.specs.Calls.{blankTrainer}
 use Rattle.record.specs.declared.inner.layout.Layout.{Layout}
-use Rattle.record.specs.Bytes.{bytesOf, flagByte}
+use Rattle.wire.specs.Bytes.{bytesOf, flagByte}
 use Rattle.record.specs.Layout.{carries}
-use Rattle.record.specs.Write.{floatBytes, actionBytes, nodeBytes}
+use Rattle.wire.specs.Fields.{floatBytes, actionBytes}
+use Rattle.record.specs.Write.{nodeBytes}
 use Rattle.record.specs.Read.{readOf}
 use Rattle.record.specs.Calls.{bodyHolds}
 
@@ -38,4 +40,4 @@ nodeFields l x = cond (carries l (x .children)) (nodeBytes x) []
 
 -- what load answers once the length and the version hold
 abbrev pub bodyTaken : List ℕ → Answered
-bodyTaken bytes = cond (bodyHolds bytes) (taken (readOf bytes)) (refuse 8 blankTrainer)
+bodyTaken bytes = cond (bodyHolds bytes) (taken (readOf bytes)) (refuse badField blankTrainer)

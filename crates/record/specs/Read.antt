@@ -4,13 +4,9 @@ use mathlib.Core.List.{List}
 use Prim.Native.Nat.{ℕ, zero, suc, _+_, _*_}
 use lib.ListN.{getD}
 use lib.Dec.{eqb, ltb}
-use lib.Ieee.{Float, binary64, ofBits}
-use mir.Syntax.{w32}
-use mir.Val.{toZ}
 use Rattle.remy.specs.declared.action.Action.{Action}
-use Rattle.remy.specs.Action.{actionOf}
 use Rattle.remy.specs.declared.point.Point.{Point}
-use Rattle.remy.specs.Cube.{pointOf, usualEnds}
+use Rattle.remy.specs.Cube.{usualEnds}
 use Rattle.rule_tree.specs.declared.Node.{Node}
 use Rattle.rule_tree.specs.declared.RuleTree.{RuleTree}
 use Rattle.rule_tree.specs.Lists.{tabulate, countBelow}
@@ -18,17 +14,9 @@ use Rattle.rule_tree.specs.Nodes.{nodeCount, blankNode}
 use Rattle.trainer.specs.declared.settings.Settings.{Settings}
 use Rattle.trainer.specs.declared.Trainer.{Trainer}
 use Rattle.record.specs.declared.inner.layout.Layout.{Layout}
-use Rattle.record.specs.Bytes.{numberAt}
+use Rattle.wire.specs.Bytes.{numberAt}
 use Rattle.record.specs.Layout.{layoutOf, carries, givenAction, endsSize, listPlace, nodesPlace, statePlace}
-
-abbrev pub floatAt : List ℕ → ℕ → Float
-floatAt bytes at = ofBits binary64 (numberAt bytes at 8)
-
-abbrev pub actionAt : List ℕ → ℕ → Action
-actionAt bytes at = actionOf (floatAt bytes at) (toZ w32 (numberAt bytes (at + 8) 4)) (floatAt bytes (at + 12))
-
-abbrev pub flagAt : List ℕ → ℕ → Bool
-flagAt bytes at = eqb (getD bytes at 0) 1
+use Rattle.wire.specs.Fields.{floatAt, actionAt, flagAt, pointAt}
 
 abbrev pub settingsAt : List ℕ → ℕ → Settings
 settingsAt bytes at =
@@ -45,9 +33,6 @@ settingsAt bytes at =
     }
 
 -- the upper ends that stand at a place, or the usual ones
-abbrev pub pointAt : List ℕ → ℕ → Point
-pointAt bytes at = pointOf (floatAt bytes at) (floatAt bytes (at + 8)) (floatAt bytes (at + 16))
-
 abbrev pub endsAt : Layout → List ℕ → ℕ → Point
 endsAt l bytes at = cond (l .ends) (pointAt bytes at) usualEnds
 

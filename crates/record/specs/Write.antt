@@ -3,11 +3,6 @@ use mathlib.Core.Bool.{cond}
 use mathlib.Core.List.{List, [], _∷_, _++_}
 use Prim.Native.Nat.{ℕ, zero, suc, _+_}
 use lib.ListN.{length, take}
-use lib.Ieee.{Float, binary64, toBits}
-use mir.Syntax.{w32}
-use mir.Val.{ofZ}
-use Rattle.remy.specs.declared.action.Action.{Action}
-use Rattle.remy.specs.declared.point.Point.{Point}
 use Rattle.rule_tree.specs.declared.Node.{Node}
 use Rattle.rule_tree.specs.declared.RuleTree.{RuleTree}
 use Rattle.rule_tree.specs.Nodes.{nodeAt, nodeCount, childrenOf}
@@ -15,15 +10,9 @@ use Rattle.rule_tree.specs.Cubes.{splitNodes}
 use Rattle.trainer.specs.declared.settings.Settings.{Settings}
 use Rattle.trainer.specs.declared.Trainer.{Trainer}
 use Rattle.record.specs.declared.inner.layout.Layout.{Layout}
-use Rattle.record.specs.Bytes.{bytesOf, flagByte}
+use Rattle.wire.specs.Bytes.{bytesOf, flagByte}
 use Rattle.record.specs.Layout.{layoutOf, carries}
-
-abbrev pub floatBytes : Float → List ℕ
-floatBytes x = bytesOf 8 (toBits binary64 x)
-
--- "multiplier bits 8, increment 4, delay bits 8"
-abbrev pub actionBytes : Action → List ℕ
-actionBytes a = floatBytes (a .«window_multiplier») ++ (bytesOf 4 (ofZ w32 (a .«window_increment»)) ++ floatBytes (a .«intersend_delay» .0))
+use Rattle.wire.specs.Fields.{floatBytes, actionBytes, pointBytes}
 
 -- "u32 splits, rounds, multiplier; drill byte; five actions in the order above"
 abbrev pub settingsBytes : Settings → List ℕ
@@ -53,10 +42,7 @@ payloadBytes l nodes zero = []
 payloadBytes l nodes (suc n) =
     payloadBytes l nodes n ++ cond (carries l (nodeAt nodes n .children)) (nodeBytes (nodeAt nodes n)) []
 
--- the upper ends, ack, send, ratio, where the layout has them
-abbrev pub pointBytes : Point → List ℕ
-pointBytes p = floatBytes (p .«ack_ewma» .0) ++ (floatBytes (p .«send_ewma» .0) ++ floatBytes (p .«rtt_ratio»))
-
+-- the upper ends, where the layout has them
 abbrev pub endBytes : Layout → RuleTree → List ℕ
 endBytes l t = cond (l .ends) (pointBytes (t .ends)) []
 

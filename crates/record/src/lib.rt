@@ -27,9 +27,9 @@ pub fn save(t: Trainer, buf: &mut [u8]) -> Saved
             write::write(buf, l, 2, t);
             return Saved::Size(size);
         }
-        return Saved::Refused(9);
+        return Saved::Refused(refusal::SHORT_BUFFER);
     }
-    Saved::Refused(10)
+    Saved::Refused(refusal::NOT_GROWN)
 }
 
 // The trainer whose record the bytes are; a refused load hands back the blank one.

@@ -23,6 +23,7 @@ use Rattle.rule_tree.specs.Nodes.{noAction}
 use Rattle.rule_tree.specs.Counts.{cappedTotal, countsHold, usedIn}
 use Rattle.rule_tree.specs.Change.{freshTree, withAction}
 use Rattle.rule_tree.specs.Grown.{grownOf}
+use Rattle.rule_tree.specs.Calls.{blankTree}
 use Rattle.rule_tree.proofs.Chosen.{the-type}
 use Rattle.rule_tree.proofs.Counting.{counts-accepted, most-used-leaf}
 use Rattle.rule_tree.proofs.GrownTree.{grown-facts, chosen-leaf, leaf-below}
@@ -79,11 +80,8 @@ settingsWith a =
       «default_action» = a;
     }
 
-pub blank-is : (a : Action) (e : Point) (t : RuleTree) (r : Trainer) → a ≡ noAction → e ≡ cube.usualEnds → t ≡ freshTree e a → r ≡ stand (settingsWith a) t 0 0 0 → r ≡ blankTrainer
-blank-is a e t r p q h k =
-    k ∙ ap (λ (x : RuleTree). stand (settingsWith a) x 0 0 0) h
-    ∙ ap (λ (x : Point). stand (settingsWith a) (freshTree x a) 0 0 0) q
-    ∙ ap (λ (x : Action). stand (settingsWith x) (freshTree cube.usualEnds x) 0 0 0) p
+pub blank-is : (a : Action) (t : RuleTree) (r : Trainer) → a ≡ noAction → t ≡ blankTree → r ≡ stand (settingsWith a) t 0 0 0 → r ≡ blankTrainer
+blank-is a t r p h k = k ∙ (λ j. stand (settingsWith (p j)) (h j) 0 0 0)
 
 -- ---- the most used leaf
 pub nobody-chosen : (m w : Chosen) → m ≡ w → (tagOf the-type m ≡ 1) ⊎ (tagOf the-type m ≡ 2) → 0 ≡ chosenLeaf w

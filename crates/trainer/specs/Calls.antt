@@ -6,7 +6,8 @@ use lib.ListN.{getD}
 use lib.Dec.{eqb}
 use lib.IntN.{pos}
 use lib.Ieee.{Float, binary64, div, ofInt}
-use Rattle.quantities.specs.Guards.{test, guarded}
+use Rattle.refusal.specs.Numbers.{badCounts, badSettings, notAsked, notGrown}
+use Rattle.refusal.specs.Guards.{Test, test, guarded}
 use Rattle.remy.specs.Cube as cube
 use Rattle.rule_tree.specs.Change.{freshTree}
 use Rattle.rule_tree.specs.Nodes.{noAction}
@@ -44,9 +45,11 @@ blankTrainer = stand blankSettings blankTree 0 0 0
 abbrev pub started : Settings → Trainer
 started s = beginRound s (freshTree cube.usualEnds (s .«default_action»)) 0 0
 
--- start: 2
+abbrev pub startOrder : Settings → List Test
+startOrder s = test (settingsHold s) badSettings ∷ []
+
 unfoldable pub startOf : Settings → Answered
-startOf s = guarded (test (settingsHold s) 2 ∷ []) (λ k. refuse k blankTrainer) (taken (started s))
+startOf s = guarded (startOrder s) (λ k. refuse k blankTrainer) (taken (started s))
 
 -- "progress stage / (rule_splits + 1) in floats"
 abbrev pub progressOf : Trainer → Float
@@ -60,10 +63,12 @@ askedOf t =
     (question.Score (t .leaf) (getD (candidatesOf (t .settings) (leafAction t)) (t .k) noCandidate) (progressOf t))
     (cond (eqb (t .phase) 7) (question.Done (progressOf t)) (question.Counts (progressOf t))))
 
--- question: 10
+abbrev pub questionOrder : Trainer → List Test
+questionOrder t = test (acceptedOf t) notGrown ∷ []
+
 unfoldable pub questionOf : Trainer → Question
 unfolding askedOf
-questionOf t = guarded (test (acceptedOf t) 10 ∷ []) question.Refused (askedOf t)
+questionOf t = guarded (questionOrder t) question.Refused (askedOf t)
 
 abbrev pub wantsCounts : ℕ → Bool
 wantsCounts phase = eqb phase 1 || (eqb phase 2 || (eqb phase 3 || eqb phase 6))
@@ -76,18 +81,24 @@ countsStep t xs =
     cond (eqb (t .phase) 1) (phase1 t xs)
     (cond (eqb (t .phase) 2) (phase2 t xs) (cond (eqb (t .phase) 3) (phase3 t xs) (phase6 t)))
 
--- answer with counts: 10, 21, 4, 20
+-- "21, 4"; 20 is the step's own
+abbrev pub countsOrder : Trainer → List ℕ → List Test
+countsOrder t xs =
+    test (acceptedOf t) notGrown ∷ test (wantsCounts (t .phase)) notAsked ∷ test (countsHold (t .tree) xs) badCounts ∷ []
+
+-- answer with counts
 unfoldable pub answerCountsOf : Trainer → List ℕ → Answered
 unfolding countsStep
-answerCountsOf t xs =
-    guarded (test (acceptedOf t) 10 ∷ test (wantsCounts (t .phase)) 21 ∷ test (countsHold (t .tree) xs) 4 ∷ [])
-    (λ k. refuse k t) (countsStep t xs)
+answerCountsOf t xs = guarded (countsOrder t xs) (λ k. refuse k t) (countsStep t xs)
 
 unfoldable pub scoreStep : Trainer → Float → Trainer
 scoreStep t x = cond (eqb (t .phase) 4) (phase4 t x) (phase5 t x)
 
--- answer with a score: 10, 21
+-- "10 before all; 21"
+abbrev pub scoreOrder : Trainer → List Test
+scoreOrder t = test (acceptedOf t) notGrown ∷ test (wantsScore (t .phase)) notAsked ∷ []
+
+-- answer with a score
 unfoldable pub answerScoreOf : Trainer → Float → Answered
 unfolding scoreStep
-answerScoreOf t x =
-    guarded (test (acceptedOf t) 10 ∷ test (wantsScore (t .phase)) 21 ∷ []) (λ k. refuse k t) (taken (scoreStep t x))
+answerScoreOf t x = guarded (scoreOrder t) (λ k. refuse k t) (taken (scoreStep t x))

@@ -7,6 +7,8 @@ use lib.Dec.{ltb}
 use lib.IntN.{ℤ, pos, negℤ, _+ℤ_}
 use lib.Signed.{leZ}
 use lib.Ieee.{Float, nan, binary64, add, neg, le}
+use Rattle.refusal.specs.Guards.{Test, test, guarded}
+use Rattle.refusal.specs.Numbers.{badSettings, notAdmitted}
 use Rattle.remy.specs.declared.action.Action.{Action}
 use Rattle.remy.specs.Action.{actionOf, validOf}
 use Rattle.trainer.specs.declared.settings.Settings.{Settings}
@@ -60,7 +62,10 @@ noCandidate = actionOf nan (pos 0) nan
 unfoldable pub pickOf : List Action → ℕ → Candidate
 pickOf xs k = cond (ltb k (length xs)) (At (length xs) (getD xs k noCandidate)) (Past (length xs))
 
--- the candidate call: 2, 1
+-- "2, 1 in the candidate call"
+abbrev pub candidateOrder : Settings → Action → List Test
+candidateOrder s a = test (settingsHold s) badSettings ∷ test (validOf a) notAdmitted ∷ []
+
 unfoldable pub candidateOf : Settings → Action → ℕ → Candidate
 unfolding pickOf
-candidateOf s a k = cond (settingsHold s) (cond (validOf a) (pickOf (candidatesOf s a) k) (Refused 1)) (Refused 2)
+candidateOf s a k = guarded (candidateOrder s a) Refused (pickOf (candidatesOf s a) k)

@@ -5,6 +5,7 @@ use Prim.Native.Nat.{ℕ, _+_}
 use lib.ListN.{length, getD}
 use lib.Dec.{eqb, ltb, leb}
 use lib.Ieee.{Float, le, lt}
+use Rattle.refusal.specs.Numbers.{fullTree}
 use Rattle.remy.specs.Cube as cube
 use Rattle.rule_tree.specs.declared.RuleTree.{RuleTree}
 use Rattle.rule_tree.specs.declared.Chosen.{Chosen}
@@ -54,14 +55,14 @@ phase1 t xs =
     let tree = splitMostUsed (t .tree) xs in
     cond (ltb (t .tree .splits) 64)
     (taken (cond (t .settings .drill && leb (usedIn xs) 1) (stand (t .settings) tree 2 (t .stage) 0) (beginRound (t .settings) tree (t .stage) 0)))
-    (refuse 20 t)
+    (refuse fullTree t)
 
 -- "2, counts: more than one above 0, begin round; else split the most used, stay"; 20
 unfoldable pub phase2 : Trainer → List ℕ → Answered
 unfolding beginRound chosenLeaf
 phase2 t xs =
     cond (ltb 1 (usedIn xs)) (taken (beginRound (t .settings) (t .tree) (t .stage) 0))
-    (cond (ltb (t .tree .splits) 64) (taken (stand (t .settings) (splitMostUsed (t .tree) xs) 2 (t .stage) 0)) (refuse 20 t))
+    (cond (ltb (t .tree .splits) 64) (taken (stand (t .settings) (splitMostUsed (t .tree) xs) 2 (t .stage) 0)) (refuse fullTree t))
 
 -- "clear marks, round+1, begin round"
 abbrev pub nextRound : Trainer → Trainer

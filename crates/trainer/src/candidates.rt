@@ -19,7 +19,7 @@ pub fn candidate_at(s: Settings, a: Action, k: u32) -> Candidate
         if a.valid() {
             return axes::candidate_in(s, a, k);
         }
-        return Candidate::Refused(1);
+        return Candidate::Refused(refusal::NOT_ADMITTED);
     }
-    Candidate::Refused(2)
+    Candidate::Refused(refusal::BAD_SETTINGS)
 }

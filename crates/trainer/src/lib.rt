@@ -51,7 +51,7 @@ impl Trainer {
         }
         let trainer = inner::begin::blank();
         Answered {
-            refused: 2,
+            refused: refusal::BAD_SETTINGS,
             trainer,
         }
     }
@@ -69,7 +69,7 @@ impl Trainer {
         if inner::accepted::accepted(self) {
             return inner::ask::asked(self);
         }
-        Question::Refused(10)
+        Question::Refused(refusal::NOT_GROWN)
     }
 
     pub fn answer_counts(self, counts: &[u64]) -> Answered
@@ -82,17 +82,17 @@ impl Trainer {
                     return inner::counting::counted(self, counts);
                 }
                 return Answered {
-                    refused: 4,
+                    refused: refusal::BAD_COUNTS,
                     trainer: self,
                 };
             }
             return Answered {
-                refused: 21,
+                refused: refusal::NOT_ASKED,
                 trainer: self,
             };
         }
         Answered {
-            refused: 10,
+            refused: refusal::NOT_GROWN,
             trainer: self,
         }
     }
@@ -109,12 +109,12 @@ impl Trainer {
                 };
             }
             return Answered {
-                refused: 21,
+                refused: refusal::NOT_ASKED,
                 trainer: self,
             };
         }
         Answered {
-            refused: 10,
+            refused: refusal::NOT_GROWN,
             trainer: self,
         }
     }

@@ -4,7 +4,7 @@ ghost use mathlib.Core.Bool.{true};
 ghost use Rattle.rule_tree.specs.Grown.{grownOf};
 ghost use Rattle.trainer.specs.Phases.{refuse};
 ghost use Rattle.trainer.specs.Calls.{blankTrainer};
-ghost use Rattle.record.specs.Bytes.{sameBytes};
+ghost use Rattle.wire.specs.Bytes.{sameBytes};
 ghost use Rattle.record.specs.Write.{recordIn};
 ghost use Rattle.record.specs.Parts.{bodyTaken};
 use crate::inner::layout;
@@ -33,13 +33,13 @@ fn same_record(t: Trainer, l: Layout, version: u8, bytes: &[u8]) -> bool
     let size = layout::size(l, tree.splits);
     let mut buf = [0u8; 11076];
     write::write(&mut buf, l, version, t);
-    read::same(&buf[..size], bytes)
+    wire::inner::read::same(&buf[..size], bytes)
 }
 
 pub fn read_body(bytes: &[u8]) -> Answered
     ensures { λ r. ⌜ r ≡ bodyTaken (now (bytes .entry)) ⌝ }
 {
-    let version = read::byte_at(bytes, 4);
+    let version = wire::inner::read::byte_at(bytes, 4);
     let l = layout::of_version(version);
     let s = read::split_count(bytes, l);
     if s > 64 {

@@ -1,14 +1,10 @@
 // The fields of a record, each read at its place; what lies past the end reads as no bytes.
 ghost use mathlib.Core.Path.{_≡_};
 ghost use mathlib.Core.Bool.{cond};
-ghost use Prim.Native.Nat.{_+_, _*_, _^_, _≤_, _<_};
-ghost use lib.ListN.{length, getD};
-ghost use mir.Syntax.{w32};
-ghost use mir.Val.{toZ};
+ghost use Prim.Native.Nat.{_+_, _*_, _≤_, _<_};
 ghost use Rattle.rule_tree.specs.Lists.{tabulate};
-ghost use Rattle.record.specs.Bytes.{numberAt, sameBytes};
 ghost use Rattle.record.specs.Layout.{carries};
-ghost use Rattle.record.specs.Read.{floatAt, actionAt, flagAt, settingsAt, pointAt, endsAt, splitCount, linkOf, nodeWith, treeAt, trainerAt};
+ghost use Rattle.record.specs.Read.{settingsAt, endsAt, splitCount, linkOf, nodeWith, treeAt, trainerAt};
 ghost use Rattle.record.specs.Calls.{lengthHolds, versionHolds};
 use crate::inner::layout;
 use crate::inner::layout::Layout;
@@ -18,80 +14,13 @@ use rule_tree::Node;
 use rule_tree::RuleTree;
 use trainer::Trainer;
 use trainer::settings::Settings;
-
-// The number in n bytes from place at on.
-pub fn number_at(bytes: &[u8], at: usize, n: usize) -> u64
-    requires { ⌜ (n ≤ 8) × (at ≤ 65536) ⌝ }
-    ensures { λ r. ⌜ (r ≡ numberAt (now (bytes .entry)) at n) × (r < 256 ^ n) ⌝ }
-{
-    let mut x: u64 = 0;
-    let mut i: usize = 0;
-    while i < n {
-        let place = at + i;
-        if bytes.len() <= place {
-            return x;
-        }
-        let b = bytes[place] as u64;
-        x = x * 256 + b;
-        i += 1;
-    }
-    x
-}
-
-pub fn byte_at(bytes: &[u8], at: usize) -> u8
-    ensures { λ r. ⌜ r ≡ getD (now (bytes .entry)) at 0 ⌝ }
-{
-    if at < bytes.len() { bytes[at] } else { 0 }
-}
-
-pub fn flag_at(bytes: &[u8], at: usize) -> bool
-    ensures { λ r. ⌜ r ≡ flagAt (now (bytes .entry)) at ⌝ }
-{
-    byte_at(bytes, at) == 1
-}
-
-pub fn short_at(bytes: &[u8], at: usize) -> u16
-    requires { ⌜ at ≤ 65536 ⌝ }
-    ensures { λ r. ⌜ r ≡ numberAt (now (bytes .entry)) at 2 ⌝ }
-{
-    number_at(bytes, at, 2) as u16
-}
-
-pub fn word_at(bytes: &[u8], at: usize) -> u32
-    requires { ⌜ at ≤ 65536 ⌝ }
-    ensures { λ r. ⌜ r ≡ numberAt (now (bytes .entry)) at 4 ⌝ }
-{
-    number_at(bytes, at, 4) as u32
-}
-
-pub fn float_at(bytes: &[u8], at: usize) -> f64
-    requires { ⌜ at ≤ 65536 ⌝ }
-    ensures { λ r. ⌜ r ≡ floatAt (now (bytes .entry)) at ⌝ }
-{
-    floats::from_bits(number_at(bytes, at, 8))
-}
-
-// The number whose 32 bits are b.
-pub fn signed(b: u32) -> i32
-    ensures { λ r. ⌜ r ≡ toZ w32 b ⌝ }
-{
-    let wide = b as i64;
-    if b < 2147483648 {
-        wide as i32
-    } else {
-        (wide - 4294967296) as i32
-    }
-}
-
-pub fn action_at(bytes: &[u8], at: usize) -> Action
-    requires { ⌜ at ≤ 65000 ⌝ }
-    ensures { λ r. ⌜ r ≡ actionAt (now (bytes .entry)) at ⌝ }
-{
-    let multiplier = float_at(bytes, at);
-    let increment = signed(word_at(bytes, at + 8));
-    let delay = float_at(bytes, at + 12);
-    Action::new(multiplier, increment, delay)
-}
+use wire::inner::read::action_at;
+use wire::inner::read::byte_at;
+use wire::inner::read::flag_at;
+use wire::inner::read::float_at;
+use wire::inner::read::point_at;
+use wire::inner::read::short_at;
+use wire::inner::read::word_at;
 
 pub fn settings_at(bytes: &[u8], at: usize) -> Settings
     requires { ⌜ at ≤ 60000 ⌝ }
@@ -117,16 +46,6 @@ pub fn settings_at(bytes: &[u8], at: usize) -> Settings
         max_change,
         default_action,
     }
-}
-
-fn point_at(bytes: &[u8], at: usize) -> Point
-    requires { ⌜ at ≤ 65000 ⌝ }
-    ensures { λ r. ⌜ r ≡ pointAt (now (bytes .entry)) at ⌝ }
-{
-    let ack = float_at(bytes, at);
-    let send = float_at(bytes, at + 8);
-    let ratio = float_at(bytes, at + 16);
-    Point::new(ack, send, ratio)
 }
 
 // The upper ends that stand at place at, or the usual ones.
@@ -263,22 +182,6 @@ pub fn trainer_at(bytes: &[u8], l: Layout, s: u16) -> Trainer
         kept,
         kept_score,
     }
-}
-
-pub fn same(a: &[u8], b: &[u8]) -> bool
-    ensures { λ r. ⌜ r ≡ sameBytes (now (a .entry)) (now (b .entry)) ⌝ }
-{
-    if a.len() != b.len() {
-        return false;
-    }
-    let mut i: usize = 0;
-    while i < a.len() {
-        if a[i] != b[i] {
-            return false;
-        }
-        i += 1;
-    }
-    true
 }
 
 // The first four bytes say how many follow.

@@ -1,18 +1,13 @@
 // The bytes of a record, field by field. What is not written stays.
 ghost use mathlib.Core.Path.{_≡_};
-ghost use mathlib.Core.Bool.{true, cond};
-ghost use mathlib.Core.List.{[], _∷_, _++_};
+ghost use mathlib.Core.Bool.{true};
 ghost use Prim.Native.Nat.{_+_, _*_, _≤_};
-ghost use lib.Dec.{eqb};
 ghost use lib.ListN.{length, take};
 ghost use lib.Seq.{sets};
-ghost use mir.Syntax.{w32};
-ghost use mir.Val.{ofZ};
 ghost use Rattle.rule_tree.specs.Nodes.{nodeCount};
 ghost use Rattle.rule_tree.specs.Grown.{grownOf};
-ghost use Rattle.record.specs.Bytes.{bytesOf, flagByte};
 ghost use Rattle.record.specs.Layout.{endsSize, sizeIn};
-ghost use Rattle.record.specs.Write.{actionBytes, settingsBytes, numbersBytes, splitsBytes, pointBytes, endBytes, nodeBytes, payloadBytes, stateBytes, recordIn};
+ghost use Rattle.record.specs.Write.{settingsBytes, numbersBytes, splitsBytes, endBytes, payloadBytes, stateBytes, recordIn};
 ghost use Rattle.record.specs.Parts.{numberFields, actionFields, placeFields, trialFields, nodeFields};
 use crate::inner::layout;
 use crate::inner::layout::Layout;
@@ -24,50 +19,10 @@ use rule_tree::inner::cubes;
 use rule_tree::inner::links;
 use trainer::Trainer;
 use trainer::settings::Settings;
-
-// x in n bytes from place at on, the highest first.
-pub fn put(buf: &mut [u8], at: usize, n: usize, x: u64)
-    requires { ⌜ at + n ≤ length (now buf) ⌝ }
-    ensures { λ _. ⌜ now (buf .exit) ≡ sets (now (buf .entry)) at (bytesOf n x) ⌝ }
-{
-    let mut left = n;
-    let mut rest = x;
-    while left > 0 {
-        left -= 1;
-        buf[at + left] = (rest % 256) as u8;
-        rest = rest / 256;
-    }
-}
-
-// The 32 bits of x.
-pub fn bits_of(x: i32) -> u64
-    ensures { λ r. ⌜ r ≡ ofZ w32 x ⌝ }
-{
-    let wide = x as i64;
-    if wide < 0 {
-        (wide + 4294967296) as u64
-    } else {
-        wide as u64
-    }
-}
-
-fn flag_of(b: bool) -> u8
-    ensures { λ r. ⌜ r ≡ flagByte b ⌝ }
-{
-    if b { 1 } else { 0 }
-}
-
-pub fn put_action(buf: &mut [u8], at: usize, a: Action)
-    requires { ⌜ at + 20 ≤ length (now buf) ⌝ }
-    ensures { λ _. ⌜ now (buf .exit) ≡ sets (now (buf .entry)) at (actionBytes a) ⌝ }
-{
-    let multiplier = floats::to_bits(a.window_multiplier);
-    let increment = bits_of(a.window_increment);
-    let delay = floats::to_bits(a.intersend_delay.0);
-    put(buf, at, 8, multiplier);
-    put(buf, at + 8, 4, increment);
-    put(buf, at + 12, 8, delay);
-}
+use wire::inner::write::flag_of;
+use wire::inner::write::put;
+use wire::inner::write::put_action;
+use wire::inner::write::put_point;
 
 // The settings' numbers and drill.
 fn put_numbers(buf: &mut [u8], at: usize, s: Settings)
@@ -126,18 +81,6 @@ fn put_splits(buf: &mut [u8], at: usize, t: RuleTree)
     let parents = cubes::split_nodes(&children);
     put(buf, at, 2, t.splits as u64);
     put_list(buf, at + 2, &parents, t.splits as usize);
-}
-
-fn put_point(buf: &mut [u8], at: usize, p: Point)
-    requires { ⌜ at + 24 ≤ length (now buf) ⌝ }
-    ensures { λ _. ⌜ now (buf .exit) ≡ sets (now (buf .entry)) at (pointBytes p) ⌝ }
-{
-    let ack = floats::to_bits(p.ack_ewma.0);
-    let send = floats::to_bits(p.send_ewma.0);
-    let ratio = floats::to_bits(p.rtt_ratio);
-    put(buf, at, 8, ack);
-    put(buf, at + 8, 8, send);
-    put(buf, at + 16, 8, ratio);
 }
 
 // The upper ends, where the layout has them. The place after them.

@@ -117,6 +117,6 @@ pub fn blank() -> Trainer
         max_change: a,
         default_action: a,
     };
-    let t = rule_tree::inner::change::fresh(Point::usual_ends(), a);
+    let t = rule_tree::inner::change::blank();
     stand_at(s, t, 0, 0, 0)
 }

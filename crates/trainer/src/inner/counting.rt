@@ -67,7 +67,7 @@ fn split_once(t: Trainer, xs: &[u64]) -> Answered
         };
     }
     Answered {
-        refused: 20,
+        refused: refusal::FULL_TREE,
         trainer: t,
     }
 }
@@ -95,7 +95,7 @@ fn split_again(t: Trainer, xs: &[u64]) -> Answered
         };
     }
     Answered {
-        refused: 20,
+        refused: refusal::FULL_TREE,
         trainer: t,
     }
 }

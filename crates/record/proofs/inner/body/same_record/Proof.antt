@@ -6,7 +6,7 @@ use Prim.Native.Nat.{ℕ}
 use lib.ListN.{length, replicate, length-map, length-replicate}
 use lib.Seq.{length-take-le}
 use Rattle.rule_tree.proofs.Links.{grown-splits}
-use Rattle.record.specs.Bytes.{sameBytes}
+use Rattle.wire.specs.Bytes.{sameBytes}
 use native.Mathlib.Omega.{arith}
 use borrow.Author.Needs.{needs}
 use Rattle.record.proofs.inner.body.same_record.Statement.{statement}

@@ -1,7 +1,7 @@
 -- `record::inner::read::split_count` meets its contract. Assumes nothing.
 use mathlib.Core.Path.{ap, _∙_}
 use Prim.Native.Nat.{ℕ, _+_}
-use Rattle.record.specs.Bytes.{numberAt}
+use Rattle.wire.specs.Bytes.{numberAt}
 use borrow.Author.Needs.{needs}
 use Rattle.record.proofs.inner.read.split_count.Statement.{statement}
 use Rattle.record.proofs.inner.read.split_count.Tie as tie

@@ -8,19 +8,15 @@ use Rattle.trainer.proofs.inner.begin.blank.Tie as tie
 new-requires : tie.Need-new-requires
 new-requires c κs = search needs
 
-usual-ends-requires : tie.Need-usual-ends-requires
-usual-ends-requires c κs = search needs
-
-fresh-requires : tie.Need-fresh-requires
-fresh-requires c κs = search needs
+blank-requires : tie.Need-blank-requires
+blank-requires c κs = search needs
 
 stand-at-requires : tie.Need-stand-at-requires
 stand-at-requires c κs = search needs
 
 returns : tie.Need-returns
 unfolding ofBits
-returns c = step.blank-is _ _ _ _ (c .before .before .before .new .ensures) (c .before .before .usual-ends .ensures) (c .before .fresh .ensures) (c .stand-at .ensures)
+returns c = step.blank-is _ _ _ (c .before .before .new .ensures) (c .before .blank .ensures) (c .stand-at .ensures)
 
 pub blank-spec : {M : Type 1} → statement M
-blank-spec =
-    tie.close (tie.spec new-requires usual-ends-requires fresh-requires stand-at-requires returns)
+blank-spec = tie.close (tie.spec new-requires blank-requires stand-at-requires returns)

@@ -1,0 +1,2 @@
+// Numbers, floats, actions and points as big-endian bytes.
+pub mod inner;
