@@ -33,7 +33,7 @@ use Rattle.sender.specs.declared.inner.acks.Drawn.the-variants.{Next, Mi
 use Rattle.sender.specs.Memory.{averageNext, rttNext, valueOf, ratioNow, remembered, pointOf}
 use Rattle.sender.specs.Acks.{drawn, repeatNext, paced, settled, ackDrawn, ackWith, ackPending, ackAdmitted, ackIn}
 use Rattle.sender.specs.SenderCall.{SenderCall, ack, send, tick}
-use Rattle.sender.specs.Sender.{ackOf, withSend, sendAdmitted, sendOf, tickOf}
+use Rattle.sender.specs.Sender.{ackOf, withSend, sendAdmitted, tickOf, repliedTo, leftBy}
 
 -- what a sender remembers of its acks, with what is pending
 pub record Past : Type 0 where
@@ -74,16 +74,10 @@ send-keeps s at = refl
 pub tick-keeps : (s : Sender) → pastOf (tickOf s .sender) ≡ pastOf s
 tick-keeps s = refl
 
--- ---- lists of calls: the sender that a call leaves is the one that it hands back, or where it is refused the one that came
-unfoldable pub left : Sender → Reply → Sender
-left s (Taken h) = h .sender
-left s (Refused k) = s
-
+-- ---- lists of calls
 unfoldable pub after : Sender → SenderCall RuleTree → Sender
-unfolding left
-after s (ack t sent received draw) = left s (ackOf t s sent received draw)
-after s (send at) = left s (sendOf s at)
-after s tick = tickOf s .sender
+unfolding leftBy repliedTo
+after s c = leftBy s (repliedTo s c)
 
 unfoldable pub run : Sender → List (SenderCall RuleTree) → Sender
 unfolding after
@@ -110,10 +104,10 @@ pub record Same (s u : Sender) : Type 0 where
   pub mode : s .«repeat_actions» ≡ u .«repeat_actions»
 
 send-same : (s u : Sender) (at : Float) → Same s u → Same (after s (send at)) u
-unfolding after left sendAdmitted
+unfolding after leftBy sendAdmitted
 send-same s u at e = go (admitOf at)
   where
-    go : (x : Admitted) → Same (left s (sendAdmitted s x)) u
+    go : (x : Admitted) → Same (leftBy s (sendAdmitted s x)) u
     go (admitted.At t) = record { past = e .past; mode = e .mode }
     go (admitted.Refused k) = e
 
@@ -159,17 +153,17 @@ numberOf (Taken h) = 0
 numberOf (Refused k) = k
 
 pub record Alike (s u : Sender) (r q : Reply) : Type 0 where
-  pub leaves : Same (left s r) (left u q)
+  pub leaves : Same (leftBy s r) (leftBy u q)
   pub number : numberOf r ≡ numberOf q
 
 -- an ack's number, and the past and the mode after it, are made of the past and the mode before it
 module _ {s u : Sender} (e : Same s u) (t : RuleTree) (draw : Draw) where
   refused-alike : (k : ℕ) → Alike s u (Refused k) (Refused k)
-  unfolding left
+  unfolding leftBy
   refused-alike k = record { leaves = e; number = refl }
 
   settled-alike : {m n : Sender} (a : Action) (next : Pending) → Same m n → Alike s u (settled m a next) (settled n a next)
-  unfolding left numberOf
+  unfolding leftBy numberOf
   settled-alike a next mn = record { leaves = paced-same a next mn; number = refl }
 
   drawn-alike : {m n : Sender} → Same m n → (a : Action) (d : Drawn) → Alike s u (ackDrawn m a d) (ackDrawn n a d)
@@ -211,7 +205,7 @@ module _ {s u : Sender} (e : Same s u) (t : RuleTree) (draw : Draw) where
 
 -- the taken acks alone leave the same past
 ack-run : (s u : Sender) (c : SenderCall RuleTree) (cs : List (SenderCall RuleTree)) → ((x y : Sender) → Same x y → Same (run x cs) (run y (takenAcks x cs))) → Same s u
-    → (r : Reply) → Same (left s r) (after u c) → Same (run (left s r) cs) (run u (ifTaken r c (takenAcks (left s r) cs)))
+    → (r : Reply) → Same (leftBy s r) (after u c) → Same (run (leftBy s r) cs) (run u (ifTaken r c (takenAcks (leftBy s r) cs)))
 unfolding run ifTaken
 ack-run s u c cs rest e (Taken h) k = rest (h .sender) (after u c) k
 ack-run s u c cs rest e (Refused n) k = rest s u e

@@ -3,4 +3,4 @@ pub mod Averages
 pub mod Verdict
 pub mod History
 pub mod Repeats
-pub mod Running
+pub mod Asking

@@ -1,44 +1,48 @@
--- The ways through an ack at admitted moments: by the pending repeat, or by a lookup. Assumes nothing.
+-- The ways through an ack's question, each by the tests that lead there. Assumes nothing.
 use mathlib.Core.Path.{_≡_, ap}
+use mathlib.Core.List.{List}
 use Prim.Native.Nat.{ℕ}
 use lib.Ieee.{Float}
 use Rattle.quantities.specs.declared.Time.{Time}
 use Rattle.quantities.specs.declared.Admitted.{Admitted}
-use Rattle.quantities.specs.declared.Admitted.the-variants.{At}
+use Rattle.quantities.specs.declared.Admitted.the-variants as admitted
 use Rattle.quantities.specs.Time.{admitOf}
 use Rattle.remy.specs.declared.action.Action.{Action}
 use Rattle.remy.specs.declared.point.Point.{Point}
-use Rattle.rule_tree.specs.declared.RuleTree.{RuleTree}
-use Rattle.rule_tree.specs.declared.Looked.{Looked}
-use Rattle.rule_tree.specs.Calls.{foundIn}
+use Rattle.remy.specs.declared.cube.Cube.{Cube}
+use Rattle.rule_tree.specs.declared.inner.leaf.Holder.{Holder}
+use Rattle.rule_tree.specs.Leaf.{leafHolding}
 use Rattle.sender.specs.declared.Pending.{Pending}
 use Rattle.sender.specs.declared.Pending.the-variants.{Idle, Repeat}
-use Rattle.sender.specs.declared.Draw.{Draw}
 use Rattle.sender.specs.declared.Sender.{Sender}
 use Rattle.sender.specs.declared.Reply.{Reply}
+use Rattle.sender.specs.declared.Reply.the-variants.{Refused}
+use Rattle.sender.specs.declared.inner.acks.Asked.the-variants.{Answer}
 use Rattle.sender.specs.Memory.{remembered, pointOf}
-use Rattle.sender.specs.Acks.{settled, repeatNext, ackWith, ackPending, ackAt, ackAdmitted, ackIn}
+use Rattle.sender.specs.Acks.{settled, repeatNext}
+use Rattle.sender.specs.Asks.{askLeaf, askPending, askAdmitted, askOf}
 
-module _ (t : RuleTree) (s : Sender) (draw : Draw) where
-  pub admits : (sent received : Float) {x y : Admitted} {from at : Time} → x ≡ admitOf sent → x ≡ At from → y ≡ admitOf received
-      → y ≡ At at → ackAt t s from at draw ≡ ackIn t s sent received draw
-  unfolding ackAdmitted
-  admits sent received p e q f = rw (← p, e, ← q, f)
+module _ (cs : List ℕ) (root : Cube) (s : Sender) (sent received : Float) {x : Admitted} (p : x ≡ admitOf sent) where
+  pub unsent : {k : ℕ} → x ≡ admitted.Refused k → Answer (Refused 1) ≡ askOf cs root s sent received
+  unfolding askAdmitted
+  unsent e = rw (← p, e)
 
-  idle : (m : Sender) {p : Pending} {r : Reply} → p ≡ Idle → r ≡ ackWith m (foundIn t (pointOf m)) draw → r ≡ ackPending t m p draw
-  unfolding ackPending
-  idle m e g = rw e g
+  module _ {y : Admitted} {from : Time} (e : x ≡ admitted.At from) (q : y ≡ admitOf received) where
+    pub unreceived : {k : ℕ} → y ≡ admitted.Refused k → Answer (Refused 1) ≡ askOf cs root s sent received
+    unfolding askAdmitted
+    unreceived f = rw (← p, e, ← q, f)
 
-  module _ {m : Sender} (from at : Time) (is : m ≡ remembered s from at) where
-    in-memory : ackPending t m (m .«next_change») draw ≡ ackAt t s from at draw
-    in-memory = ap (λ (z : Sender). ackPending t z (z .«next_change») draw) is
+    module _ {at : Time} (f : y ≡ admitted.At at) {m : Sender} (is : m ≡ remembered s from at) where
+      asks : askPending cs root m (m .«next_change») ≡ askOf cs root s sent received
+      unfolding askAdmitted
+      asks = rw (← p, e, ← q, f) (ap (λ (z : Sender). askPending cs root z (z .«next_change»)) is)
 
-    pub served : {r : Reply} (left : ℕ) (a : Action) {next : Pending} → m .«next_change» ≡ Repeat left a → next ≡ repeatNext left a
-        → r ≡ settled m a next → r ≡ ackAt t s from at draw
-    unfolding ackPending
-    served left a e n g = rw (← in-memory, e, g, n)
+      pub by-repeat : {left : ℕ} {a : Action} {next : Pending} {r : Reply} → m .«next_change» ≡ Repeat left a → next ≡ repeatNext left a
+          → r ≡ settled m a next → Answer r ≡ askOf cs root s sent received
+      unfolding askPending
+      by-repeat g n h = rw (← asks, g, h, n)
 
-    pub looked : {r : Reply} {p : Point} {found : Looked} → m .«next_change» ≡ Idle → p ≡ pointOf m → found ≡ foundIn t p
-        → r ≡ ackWith m found draw → r ≡ ackAt t s from at draw
-    unfolding ackPending
-    looked e q f g = rw (← in-memory) (idle m e (rw (g, f, q)))
+      pub by-leaf : {pt : Point} {h l : Holder} → m .«next_change» ≡ Idle → pt ≡ pointOf m → h ≡ leafHolding cs root pt → h ≡ l
+          → askLeaf m l ≡ askOf cs root s sent received
+      unfolding askPending
+      by-leaf g o h e = rw (← e, h, o, ← asks, g)

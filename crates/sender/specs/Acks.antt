@@ -1,8 +1,9 @@
 -- 01, "the sender": an ack over a tree that was tested.
-use mathlib.Core.Bool.{Bool, true, false, _&&_, cond}
+use mathlib.Core.Bool.{_&&_, cond}
 use Prim.Native.Nat.{ℕ, _-_}
 use lib.Dec.{eqb, leb}
 use lib.Ieee.{Float}
+use Rattle.refusal.specs.Numbers.{noDraw, noRule, notAdmitted}
 use Rattle.quantities.specs.declared.Time.{Time}
 use Rattle.quantities.specs.declared.Admitted.{Admitted}
 use Rattle.quantities.specs.declared.Admitted.the-variants as admitted
@@ -22,7 +23,6 @@ use Rattle.sender.specs.declared.RepeatMode.the-variants.{Off, Always, B
 use Rattle.sender.specs.declared.Draw.{Draw}
 use Rattle.sender.specs.declared.Draw.the-variants.{Absent, Given}
 use Rattle.sender.specs.declared.Sender.{Sender}
-use Rattle.sender.specs.declared.Held.{Held}
 use Rattle.sender.specs.declared.Reply.{Reply}
 use Rattle.sender.specs.declared.Reply.the-variants.{Taken, Refused}
 use Rattle.sender.specs.declared.inner.acks.Drawn.{Drawn}
@@ -36,6 +36,10 @@ windowIn (moment.At t) w = 0
 
 abbrev pub windowNow : Sender → ℕ
 windowNow s = windowIn (s .«last_send») (s .window)
+
+-- a number up to 4,294,967,295 is the draw, any larger one none
+unfoldable pub drawFrom : ℕ → Draw
+drawFrom n = cond (leb n 4294967295) (Given n) Absent
 
 -- "then a draw is taken: off, always n, or lo..=hi handed in"; "5 a due draw absent or outside lo..=hi"
 unfoldable pub drawn : RepeatMode → Draw → Action → Drawn
@@ -70,14 +74,14 @@ settled s a next = Taken (record { sender = paced s a next; window = windowNow (
 -- with what the draw made of the action
 unfoldable pub ackDrawn : Sender → Action → Drawn → Reply
 ackDrawn m a (Next next) = settled m a next
-ackDrawn m a Missing = Refused 5
+ackDrawn m a Missing = Refused noDraw
 
 -- "Otherwise where lookup gives none, the ack is refused with 22; then a draw is taken"
 unfoldable pub ackWith : Sender → Looked → Draw → Reply
 unfolding ackDrawn drawn
 ackWith m (looked.Found a) draw = ackDrawn m a (drawn (m .«repeat_actions») draw a)
-ackWith m looked.Nothing draw = Refused 22
-ackWith m (looked.Refused k) draw = Refused 22
+ackWith m looked.Nothing draw = Refused noRule
+ackWith m (looked.Refused k) draw = Refused noRule
 
 -- "With a repeat pending its action is used, no lookup"
 unfoldable pub ackPending : RuleTree → Sender → Pending → Draw → Reply
@@ -93,8 +97,8 @@ ackAt t s sent received draw = ackPending t (remembered s sent received) (s .«n
 unfoldable pub ackAdmitted : RuleTree → Sender → Admitted → Admitted → Draw → Reply
 unfolding ackPending
 ackAdmitted t s (admitted.At sent) (admitted.At received) draw = ackAt t s sent received draw
-ackAdmitted t s (admitted.At sent) (admitted.Refused k) draw = Refused 1
-ackAdmitted t s (admitted.Refused k) received draw = Refused 1
+ackAdmitted t s (admitted.At sent) (admitted.Refused k) draw = Refused notAdmitted
+ackAdmitted t s (admitted.Refused k) received draw = Refused notAdmitted
 
 abbrev pub ackIn : RuleTree → Sender → Float → Float → Draw → Reply
 ackIn t s sent received draw = ackAdmitted t s (admitOf sent) (admitOf received) draw

@@ -1,11 +1,14 @@
 -- What each public call on a sender answers, refusals first and in 01's order.
-use mathlib.Core.Bool.{Bool, true, false, _&&_, cond}
-use Prim.Native.Nat.{ℕ}
+use mathlib.Core.Bool.{Bool, true, _&&_, cond}
+use mathlib.Core.List.{[], _∷_}
 use lib.Dec.{leb}
 use lib.Ieee.{Float}
+use Rattle.refusal.specs.Numbers.{notGrown}
+use Rattle.refusal.specs.Numbers.{badSettings, notAdmitted, notGrown}
 use Rattle.quantities.specs.declared.Time.{Time}
 use Rattle.quantities.specs.declared.Admitted.{Admitted}
 use Rattle.quantities.specs.declared.Admitted.the-variants as admitted
+use Rattle.refusal.specs.Guards.{test, guarded}
 use Rattle.quantities.specs.Time.{span, moved, laterOf, admitOf}
 use Rattle.remy.specs.Cube as cube
 use Rattle.rule_tree.specs.declared.RuleTree.{RuleTree}
@@ -18,6 +21,7 @@ use Rattle.sender.specs.declared.Pending.the-variants.{Idle}
 use Rattle.sender.specs.declared.RepeatMode.{RepeatMode}
 use Rattle.sender.specs.declared.RepeatMode.the-variants.{Off, Always, Between}
 use Rattle.sender.specs.declared.Draw.{Draw}
+use Rattle.sender.specs.declared.Event.{Event}
 use Rattle.sender.specs.declared.Sender.{Sender}
 use Rattle.sender.specs.declared.Held.{Held}
 use Rattle.sender.specs.declared.Reply.{Reply}
@@ -27,6 +31,7 @@ use Rattle.sender.specs.declared.Made.the-variants as made
 use Rattle.sender.specs.declared.Wake.{Wake}
 use Rattle.sender.specs.declared.Wake.the-variants as wake
 use Rattle.sender.specs.Acks.{windowNow, ackIn}
+use Rattle.sender.specs.SenderCall.{SenderCall, ack, send, tick, on}
 
 -- 2: "lo above hi, or hi too large" ("hi at most 4,294,967,294")
 unfoldable pub modeHolds : RepeatMode → Bool
@@ -53,11 +58,11 @@ freshSender mode =
 -- new sender: 2
 unfoldable pub newOf : RepeatMode → Made
 unfolding modeHolds
-newOf mode = cond (modeHolds mode) (made.Ready (freshSender mode)) (made.Refused 2)
+newOf mode = cond (modeHolds mode) (made.Ready (freshSender mode)) (made.Refused badSettings)
 
 -- ack: 10, 1, 22, 5
 unfoldable pub ackOf : RuleTree → Sender → Float → Float → Draw → Reply
-ackOf t s sent received draw = cond (grownOf t) (ackIn t s sent received draw) (reply.Refused 10)
+ackOf t s sent received draw = cond (grownOf t) (ackIn t s sent received draw) (reply.Refused notGrown)
 
 abbrev pub withLastSend : Sender → Moment → Sender
 withLastSend s m =
@@ -83,7 +88,7 @@ heldAs s = record { sender = s; window = windowNow s }
 -- send: 1; the answer "by the rule just given, so 0 after a send"
 unfoldable pub sendAdmitted : Sender → Admitted → Reply
 sendAdmitted s (admitted.At t) = reply.Taken (heldAs (withSend s t))
-sendAdmitted s (admitted.Refused k) = reply.Refused 1
+sendAdmitted s (admitted.Refused k) = reply.Refused notAdmitted
 
 abbrev pub sendOf : Sender → Float → Reply
 sendOf s at = sendAdmitted s (admitOf at)
@@ -91,6 +96,23 @@ sendOf s at = sendAdmitted s (admitOf at)
 -- tick: no send stands any more
 abbrev pub tickOf : Sender → Held
 tickOf s = heldAs (withLastSend s moment.Never)
+
+-- a call's reply; a tick is never refused
+unfoldable pub repliedTo : Sender → SenderCall RuleTree → Reply
+unfolding ackOf
+repliedTo s (ack t sent received draw) = ackOf t s sent received draw
+repliedTo s (send at) = sendOf s at
+repliedTo s tick = reply.Taken (tickOf s)
+
+-- an event, over a tree: 10 before all
+unfoldable pub eventOf : RuleTree → Sender → Event → Reply
+unfolding repliedTo on
+eventOf t s e = guarded (test (grownOf t) notGrown ∷ []) reply.Refused (repliedTo s (on t e))
+
+-- the sender that a reply leaves: "A refusal returns its number only; trees, senders, trainers and buffers stay"
+unfoldable pub leftBy : Sender → Reply → Sender
+leftBy s (reply.Taken h) = h .sender
+leftBy s (reply.Refused k) = s
 
 -- "Next wake: the greater of now and send + wait, or none": 1
 unfoldable pub wakeIn : Sender → Moment → Time → Wake
@@ -100,7 +122,7 @@ wakeIn s (moment.At sent) now = wake.At (laterOf now (moved sent (s .«intersend
 unfoldable pub wakeAdmitted : Sender → Admitted → Wake
 unfolding wakeIn
 wakeAdmitted s (admitted.At now) = wakeIn s (s .«last_send») now
-wakeAdmitted s (admitted.Refused k) = wake.Refused 1
+wakeAdmitted s (admitted.Refused k) = wake.Refused notAdmitted
 
 abbrev pub wakeOf : Sender → Float → Wake
 wakeOf s now = wakeAdmitted s (admitOf now)

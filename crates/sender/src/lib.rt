@@ -1,13 +1,12 @@
 // The sender: it remembers its acks, looks its memory up in a rule tree, and paces itself by the action found.
 ghost use mathlib.Core.Path.{_≡_};
-ghost use Rattle.sender.specs.Sender.{newOf, ackOf, sendOf, tickOf, wakeOf};
+ghost use Rattle.sender.specs.Sender.{newOf, ackOf, sendOf, tickOf, eventOf, wakeOf};
 use quantities::Admitted;
 use quantities::Time;
 use quantities::TimeSpan;
 use remy::action::Action;
 use rule_tree::RuleTree;
 
-pub mod face;
 pub mod inner;
 
 // A moment, or none.
@@ -45,6 +44,13 @@ pub enum RepeatMode {
 pub enum Draw {
     Absent,
     Given(u32),
+}
+
+// What happens to a sender: an ack of what was sent at a moment, received at another, with a draw or none; a send at a moment; a tick.
+pub enum Event {
+    Ack(f64, f64, Draw),
+    Send(f64),
+    Tick,
 }
 
 pub struct Sender {
@@ -89,17 +95,14 @@ impl Sender {
         if inner::memory::mode_holds(mode) {
             return Made::Ready(inner::memory::fresh(mode));
         }
-        Made::Refused(2)
+        Made::Refused(refusal::BAD_SETTINGS)
     }
 
     // An ack of what was sent at a moment, received at another, over a tree, with a draw or none.
     pub fn ack_received(self, tree: RuleTree, sent: f64, received: f64, draw: Draw) -> Reply
         ensures { λ r. ⌜ r ≡ ackOf tree self sent received draw ⌝ }
     {
-        if tree.grown() {
-            return inner::acks::acked(tree, self, sent, received, draw);
-        }
-        Reply::Refused(10)
+        self.event(tree, Event::Ack(sent, received, draw))
     }
 
     // A packet is sent at a moment.
@@ -107,7 +110,7 @@ impl Sender {
         ensures { λ r. ⌜ r ≡ sendOf self at ⌝ }
     {
         let Admitted::At(t) = quantities::admit(at) else {
-            return Reply::Refused(1);
+            return Reply::Refused(refusal::NOT_ADMITTED);
         };
         let sender = inner::memory::with_send(self, t);
         Reply::Taken(Held { sender, window: 0 })
@@ -122,12 +125,22 @@ impl Sender {
         Held { sender, window }
     }
 
+    // An event, over a tree.
+    pub fn event(self, tree: RuleTree, e: Event) -> Reply
+        ensures { λ r. ⌜ r ≡ eventOf tree self e ⌝ }
+    {
+        if tree.grown() {
+            return inner::events::taken(tree, self, e);
+        }
+        Reply::Refused(refusal::NOT_GROWN)
+    }
+
     // When the sender next wants a tick.
     pub fn next_tick(self, now: f64) -> Wake
         ensures { λ r. ⌜ r ≡ wakeOf self now ⌝ }
     {
         let Admitted::At(t) = quantities::admit(now) else {
-            return Wake::Refused(1);
+            return Wake::Refused(refusal::NOT_ADMITTED);
         };
         let standing = self.last_send;
         let Moment::At(sent) = standing else {

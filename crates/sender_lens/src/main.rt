@@ -3,6 +3,7 @@ use libc::STDOUT_FILENO;
 use remy::action::Action;
 use rule_tree::RuleTree;
 use sender::Draw;
+use sender::Event;
 use sender::Made;
 use sender::Pending;
 use sender::RepeatMode;
@@ -72,6 +73,12 @@ fn send(s: Sender, at: f64) -> Sender {
     answered(s, r)
 }
 
+// An event, over a tree.
+fn event(s: Sender, tree: RuleTree, e: Event) -> Sender {
+    let r = s.event(tree, e);
+    answered(s, r)
+}
+
 // x cut to whole, 0 where that is no u64.
 fn whole(x: f64) -> u64 {
     if x > -1.0 {
@@ -87,7 +94,7 @@ fn wake(s: Sender, now: f64) {
     match s.next_tick(now) {
         Wake::At(t) => {
             say(b"  wake at ");
-            io::print_decimal(STDOUT_FILENO, whole(t.since_start().0 * 1000.0));
+            io::print_decimal(STDOUT_FILENO, whole(t.held() * 1000.0));
             say(b" ms\n");
         }
         Wake::Never => say(b"  no wake\n"),
@@ -193,6 +200,22 @@ fn sends_and_wakes() {
     wake(s2, 0.0 / 0.0);
 }
 
+fn events() {
+    let s = start(
+        b"events: a send, an ack, a tick, a send at NaN; a tick over a tree of 65 splits",
+        RepeatMode::Off,
+    );
+    let action = Action::new(1.0, 10, 0.25);
+    let tree = RuleTree::new(action).tree;
+    let s1 = event(s, tree, Event::Send(2.0));
+    let s2 = event(s1, tree, Event::Ack(2.0, 2.5, Draw::Absent));
+    let s3 = event(s2, tree, Event::Tick);
+    event(s3, tree, Event::Send(0.0 / 0.0));
+    let mut other = tree;
+    other.splits = 65;
+    event(s3, other, Event::Tick);
+}
+
 fn main() {
     draw_zero();
     no_round_trip();
@@ -201,4 +224,5 @@ fn main() {
     received_before_sent();
     modes();
     sends_and_wakes();
+    events();
 }

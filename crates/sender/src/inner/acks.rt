@@ -1,8 +1,9 @@
-// An ack: by the pending repeat's action, or by that of the leaf that holds the sender's point.
+// An ack in two steps: it is asked what action it goes by, and it is answered with that action. Who gathered a tree's links
+// and root reads the one node that is asked for in between.
 ghost use mathlib.Core.Path.{_≡_};
-ghost use mathlib.Core.Bool.{true};
-ghost use Rattle.rule_tree.specs.Grown.{grownOf};
-ghost use Rattle.sender.specs.Acks.{drawn, settled, repeatNext, ackWith, ackIn};
+ghost use Rattle.rule_tree.specs.Leaf.{Ready};
+ghost use Rattle.sender.specs.Acks.{drawFrom, drawn, settled, repeatNext};
+ghost use Rattle.sender.specs.Asks.{askOf, nodeOf, answered};
 use crate::Draw;
 use crate::Held;
 use crate::Pending;
@@ -12,8 +13,25 @@ use crate::Sender;
 use crate::inner::memory;
 use quantities::Admitted;
 use remy::action::Action;
-use rule_tree::Looked;
-use rule_tree::RuleTree;
+use remy::cube::Cube;
+use rule_tree::inner::leaf::Holder;
+use rule_tree::inner::leaf::leaf_of;
+
+// What an ack asks for: the action of a leaf, for a sender that has the ack in memory; or nothing, and its answer is known.
+pub enum Asked {
+    Leaf(Sender, u16),
+    Answer(Reply),
+}
+
+// A number too large for a draw is none.
+pub fn draw_from(n: u64) -> Draw
+    ensures { λ r. ⌜ r ≡ drawFrom n ⌝ }
+{
+    if n <= 4294967295 {
+        return Draw::Given(n as u32);
+    }
+    Draw::Absent
+}
 
 // What a draw makes of the action that was looked up, or that a draw is due and absent or outside.
 pub enum Drawn {
@@ -83,38 +101,51 @@ pub fn settle(s: Sender, a: Action, next_change: Pending) -> Reply
     })
 }
 
-// An ack with nothing pending, of a sender m that has it in memory, by what its point found.
-pub fn ack_with(m: Sender, found: Looked, draw: Draw) -> Reply
-    ensures { λ r. ⌜ r ≡ ackWith m found draw ⌝ }
-{
-    let Looked::Found(a) = found else {
-        return Reply::Refused(22);
-    };
-    let mode = m.repeat_actions;
-    match draw_next(mode, draw, a) {
-        Drawn::Next(next) => settle(m, a, next),
-        Drawn::Missing => Reply::Refused(5),
-    }
-}
-
-pub fn acked(tree: RuleTree, s: Sender, sent: f64, received: f64, draw: Draw) -> Reply
-    requires { ⌜ grownOf tree ≡ true ⌝ }
-    ensures { λ r. ⌜ r ≡ ackIn tree s sent received draw ⌝ }
+// An ack up to the leaf that holds the sender's point.
+pub fn ask(children: &[u16; 513], root: Cube, s: Sender, sent: f64, received: f64) -> Asked
+    requires { ⌜ Ready (now children) root ⌝ }
+    ensures { λ r. ⌜ r ≡ askOf (now (children .entry)) root s sent received ⌝ }
 {
     let Admitted::At(from) = quantities::admit(sent) else {
-        return Reply::Refused(1);
+        return Asked::Answer(Reply::Refused(refusal::NOT_ADMITTED));
     };
     let Admitted::At(at) = quantities::admit(received) else {
-        return Reply::Refused(1);
+        return Asked::Answer(Reply::Refused(refusal::NOT_ADMITTED));
     };
     let m = memory::remember(s, from, at);
     let pending = m.next_change;
-    match pending {
-        Pending::Repeat(left, a) => settle(m, a, repeat_next(left, a)),
-        Pending::Idle => {
-            let p = memory::point(m);
-            let found = rule_tree::inner::walk::looked(tree, p);
-            ack_with(m, found, draw)
+    if let Pending::Repeat(left, a) = pending {
+        return Asked::Answer(settle(m, a, repeat_next(left, a)));
+    }
+    let p = memory::point(m);
+    let Holder::Leaf(node) = leaf_of(children, root, p) else {
+        return Asked::Answer(Reply::Refused(refusal::NO_RULE));
+    };
+    Asked::Leaf(m, node)
+}
+
+// The node that is asked for, 0 where none is.
+pub fn node_of(asked: Asked) -> u16
+    ensures { λ r. ⌜ r ≡ nodeOf asked ⌝ }
+{
+    match asked {
+        Asked::Leaf(_, node) => node,
+        Asked::Answer(_) => 0,
+    }
+}
+
+// The ack's answer, with the action of the node that it asked for.
+pub fn answer(asked: Asked, a: Action, draw: Draw) -> Reply
+    ensures { λ r. ⌜ r ≡ answered asked a draw ⌝ }
+{
+    match asked {
+        Asked::Answer(reply) => reply,
+        Asked::Leaf(m, _) => {
+            let mode = m.repeat_actions;
+            match draw_next(mode, draw, a) {
+                Drawn::Next(next) => settle(m, a, next),
+                Drawn::Missing => Reply::Refused(refusal::NO_DRAW),
+            }
         }
     }
 }

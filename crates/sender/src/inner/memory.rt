@@ -83,8 +83,7 @@ fn average_next(old: Average, last: Moment, now: Time) -> Average
     let Average::Of(a) = old else {
         return Average::Of(gap);
     };
-    let x = 0.875 * a.0 + 0.125 * gap.0;
-    Average::Of(TimeSpan(x))
+    Average::Of(a.times(0.875).plus(gap.times(0.125)))
 }
 
 // The shortest gives way only to a round trip below it.
@@ -94,7 +93,7 @@ fn rtt_next(old: Rtt, current: TimeSpan) -> Rtt
     match old {
         Rtt::Unknown => Rtt::Known(current, current),
         Rtt::Known(shortest, _) => {
-            if current.0 < shortest.0 {
+            if current.shorter_than(shortest) {
                 Rtt::Known(current, current)
             } else {
                 Rtt::Known(shortest, current)
@@ -148,7 +147,7 @@ fn ratio(rtt: Rtt) -> f64
 {
     match rtt {
         Rtt::Unknown => 0.0,
-        Rtt::Known(shortest, current) => current.0 / shortest.0,
+        Rtt::Known(shortest, current) => current.ratio(shortest),
     }
 }
 

@@ -1,23 +1,15 @@
--- `Sender::ack_received` tests the tree, then takes the ack. Assumes nothing.
+-- `Sender::ack_received` is the event of an ack. Assumes nothing.
+use mathlib.Core.Path.{_∙_}
+use Rattle.sender.proofs.Asking.{ack-event}
 use borrow.Author.Needs.{needs}
-use mathlib.Core.Path.{sym, _∙_}
-use Rattle.sender.specs.Sender.{ackOf}
 use Rattle.sender.proofs.Sender.ack_received.Statement.{statement}
 use Rattle.sender.proofs.Sender.ack_received.Tie as tie
 
-grown-requires : tie.Need-grown-requires
-grown-requires c κs = search needs
-
-acked-requires : tie.Need-acked-requires
-acked-requires c κs = sym (c .before .grown .ensures) ∙ c .if1 .taken
+event-requires : tie.Need-event-requires
+event-requires c κs = search needs
 
 returns : tie.Need-returns
-unfolding ackOf
-returns c = rw (c .acked .ensures, ← c .before .before .grown .ensures, c .before .if1 .taken)
-
-returns-2 : tie.Need-returns-2
-unfolding ackOf
-returns-2 c = rw (← c .before .grown .ensures, c .if1 .left)
+returns c = c .event .ensures ∙ ack-event _ _ _ _ _
 
 pub ack-received-spec : {M : Type 1} → statement M
-ack-received-spec = tie.close (tie.spec grown-requires acked-requires returns returns-2)
+ack-received-spec = tie.close (tie.spec event-requires returns)

@@ -1,0 +1,3 @@
+mod Arms
+mod Replies
+mod Stored
