@@ -1,6 +1,6 @@
 -- A valid state of the plain trainer stands for an accepted trainer. Assumes nothing.
-use mathlib.Core.Path.{_≡_, refl, ap, _∙_}
-use mathlib.Core.Bool.{true, false, not, _&&_, _||_, cond}
+use mathlib.Core.Path.{_≡_, refl, sym, ap, _∙_}
+use mathlib.Core.Bool.{true, false, not}
 use Prim.Native.Nat.{ℕ, _+_, _<_}
 use native.Mathlib.Omega.{arith}
 use borrow.Author.Tests.{lt-ltb, le-leb, eq-eqb, ne-eqb}
@@ -18,34 +18,20 @@ use Rattle.trainer.specs.declared.settings.Settings.{Settings}
 use Rattle.trainer.specs.declared.Trainer.{Trainer}
 use Rattle.trainer.specs.Settings.{settingsHold}
 use Rattle.trainer.specs.Candidates.{candidatesOf}
-use Rattle.trainer.specs.State.{none, stand, untriedIn, untried, idle, leafAction, leafHolds, keptIn, tryHolds, splitting, tuning, ending, phaseHolds, acceptedOf}
+use Rattle.trainer.specs.State.{none, stand, untriedIn, idle, leafAction, leafHolds, keptIn, tryHolds, splitting, tuning, ending, phaseHolds, acceptedOf}
+use Rattle.trainer.proofs.AcceptWays.{accepted-is, phase-is}
 use Rattle.promise.specs.PlainTree.{Tree, ruleAt}
 use Rattle.promise.specs.PlainTrainer.{State, Phase, Kept, nothing, just, phase1, phase2, phase3, phase4, phase5, phase6, phase7, keptNumber, keptScore}
 use Rattle.promise.proofs.Embed.{embedTree, ValidTree}
 use Rattle.promise.proofs.TreeKeeps.{leaf-embeds, leaf-node}
 use Rattle.promise.proofs.TreeGrown.{grown-embeds}
-use Rattle.promise.proofs.Candidates.{candidates-few}
+use Rattle.promise.proofs.Candidates.{candidates-same, candidates-few}
 use Rattle.promise.proofs.States.{embedIn, embed, Splitting, Tuning, Ending, AtLeaf, KeptHolds, ValidPhase, ValidState}
 
 -- ---- the tests of a state, one by one
-accepted-is : (t : Trainer) → acceptedOf t ≡ (settingsHold (t .settings) && (grownOf (t .tree) && phaseHolds t))
-unfolding acceptedOf
-accepted-is t = refl
-
 untried-none : untriedIn cube.zero 0 none cube.zero ≡ true
 unfolding untriedIn toBits
 untried-none = refl
-
-phase-is :
-    (t : Trainer)
-    → phaseHolds t
-    ≡ cond (eqb (t .phase) 1 || eqb (t .phase) 2) (splitting t)
-    (cond (eqb (t .phase) 3) (tuning t && idle t)
-    (cond (eqb (t .phase) 4) (tuning t && (leafHolds t && untried t))
-    (cond (eqb (t .phase) 5) (tuning t && (leafHolds t && tryHolds t))
-    (cond (eqb (t .phase) 6 || eqb (t .phase) 7) (ending t) false))))
-unfolding phaseHolds
-phase-is t = refl
 
 module _ (s : Settings) (t : RuleTree) (p i r : ℕ) where
   splitting-holds : Splitting s i r → splitting (stand s t p i r) ≡ true
@@ -97,8 +83,10 @@ module _ (s : Settings) (t : Tree) (v : ValidTree t) (i r : ℕ) where
       phase-is x ∙ and-both (tuning x) _ (tuning-holds x (h .0)) (and-both (leafHolds x) _ (leaf-accepted x refl (h .1)) untried-none)
   phase-accepted (phase5 leaf best k kept) h =
       let x = embedIn s (embedTree t) i r (phase5 leaf best k kept) in
-      let e = ap (λ (y : Node). length (candidatesOf s (y .action))) (leaf-node t v leaf (h .1 .0 .leaf)) in
-      let few = candidates-few s (ruleAt t leaf .action) in
+      let a = ruleAt t leaf .action in
+      let e =
+      ap (λ (y : Node). length (candidatesOf s (y .action))) (leaf-node t v leaf (h .1 .0 .leaf)) ∙ sym (ap length (candidates-same s a)) in
+      let few = candidates-few s a in
       phase-is x
       ∙ and-both (tuning x) _ (tuning-holds x (h .0))
       (and-both (leafHolds x) _ (leaf-accepted x refl (h .1 .0))

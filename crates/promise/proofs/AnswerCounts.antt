@@ -20,7 +20,8 @@ use Rattle.trainer.specs.Calls.{countsStep, wantsCounts, answerCountsOf}
 use Rattle.promise.specs.PlainTree.{Tree, Choice, nobody, leaf, leaves, unmarkedLeaves, mostUsed, used, sum, countsTaken, split, clearMarks}
 use Rattle.promise.specs.PlainTrainer.{State, Phase, Kept, phase1, phase2, phase3, phase4, phase5, phase6, phase7, Outcome, at, beginRound, become, refuse, splitChosen, answer1, answer2, answer3, counted}
 use Rattle.promise.proofs.Embed.{embedTree, ValidTree}
-use Rattle.promise.proofs.TreeSteps.{split-embeds, clear-embeds}
+use Rattle.promise.proofs.TreeSteps.{split-embeds}
+use Rattle.promise.proofs.TreeClears.{clear-embeds}
 use Rattle.promise.proofs.Counted.{sum-total, used-is, counts-embed, counts-length}
 use Rattle.promise.proofs.MostUsed.{chosen, most-used-embeds, most-used-unmarked-embeds, chosen-leaf, chosen-some}
 use Rattle.promise.proofs.Begins.{round-embeds}

@@ -1,6 +1,7 @@
 -- An answer with a score does to the trainer what it does to the plain trainer. Assumes nothing.
 use mathlib.Core.Path.{_≡_, refl, sym, ap, _∙_}
 use mathlib.Core.Bool.{Bool, true, false, _&&_, _||_, cond, and-true}
+use mathlib.Core.List.{List}
 use Prim.Native.Nat.{ℕ, _+_, _<_, _≤_}
 use native.Mathlib.Omega.{arith}
 use borrow.Author.Tests.{ne-eqb}
@@ -16,16 +17,18 @@ use Rattle.rule_tree.specs.Change.{withAction}
 use Rattle.trainer.specs.declared.settings.Settings.{Settings}
 use Rattle.trainer.specs.declared.Trainer.{Trainer}
 use Rattle.trainer.specs.Settings.{settingsHold}
-use Rattle.trainer.specs.Candidates.{candidatesOf, noCandidate}
+use Rattle.trainer.specs.Candidates.{candidatesOf}
+use Rattle.trainer.specs.Candidates as theirs
 use Rattle.trainer.specs.State.{none, stand, atLeaf, trying, leafAction, acceptedOf}
 use Rattle.trainer.specs.Phases as layer
 use Rattle.trainer.specs.Calls.{scoreStep, wantsScore, answerScoreOf}
+use Rattle.promise.specs.PlainCandidates.{improvements, noCandidate}
 use Rattle.promise.specs.PlainTree.{Tree, isLeaf, ruleAt, setAction}
 use Rattle.promise.specs.PlainTrainer.{State, Phase, Kept, nothing, just, phase1, phase2, phase3, phase4, phase5, phase6, phase7, at, become, refuse, candidates, markAndGoOn, tryAll, keep, afterLast, answer5, scored, keptNumber, keptScore}
 use Rattle.promise.proofs.Embed.{embedTree, ValidTree}
 use Rattle.promise.proofs.TreeSteps.{action-embeds, mark-embeds}
 use Rattle.promise.proofs.TreeKeeps.{leaf-node, action-valid}
-use Rattle.promise.proofs.Candidates.{candidates-few, candidate-valid}
+use Rattle.promise.proofs.Candidates.{candidates-same, candidates-few, candidate-same, candidate-valid}
 use Rattle.promise.proofs.Accepted.{accepted-embeds}
 use Rattle.promise.proofs.States.{embedIn, embed, answered, KeptHolds, ValidPhase, ValidState}
 
@@ -62,7 +65,7 @@ last-is :
     (t : Trainer) (kept : ℕ) (score : Float)
     → layer.afterLast t kept score
     ≡ cond (eqb kept none) (layer.marked t (t .tree))
-    (layer.tryFrom t (withAction (t .tree) (t .leaf) (getD (candidatesOf (t .settings) (leafAction t)) kept noCandidate)) score)
+    (layer.tryFrom t (withAction (t .tree) (t .leaf) (getD (candidatesOf (t .settings) (leafAction t)) kept theirs.noCandidate)) score)
 unfolding layer.afterLast
 last-is t kept score = refl
 
@@ -104,7 +107,9 @@ module _ (x : Trainer) (u t : Tree) (p : Phase) (v : ValidTree t) (l : isLeaf t 
   try-embeds best =
       try-is x (embedTree t) best
       ∙ ap (λ (y : Node). cond (eqb (length (candidatesOf (x .settings) (y .action))) 0) (layer.marked x (embedTree t)) (trying (x .settings) (embedTree t) (x .stage) (x .round) (x .leaf) best 0 none cube.zero)) (leaf-node t v (x .leaf) l)
-      ∙ go (eqb (length (candidatesOf (x .settings) (ruleAt t (x .leaf) .action))) 0)
+      ∙ ap (λ (xs : List Action). cond (eqb (length xs) 0) (layer.marked x (embedTree t)) (trying (x .settings) (embedTree t) (x .stage) (x .round) (x .leaf) best 0 none cube.zero))
+      (sym (candidates-same (x .settings) (ruleAt t (x .leaf) .action)))
+      ∙ go (eqb (length (candidates st t (x .leaf))) 0)
       ∙ ap embed (sym (plain-try-is st t (x .leaf) best))
     where
       go :
@@ -132,7 +137,7 @@ its s t i r leaf best k kept = embedIn s (embedTree t) i r (phase5 leaf best k k
 
 module _
     (s : Settings) (h : settingsHold s ≡ true) (t : Tree) (v : ValidTree t) (i r leaf : ℕ) (best : Float) (k : ℕ) (kept : Kept)
-    (l : isLeaf t leaf ≡ true) (b : k < length (candidatesOf s (ruleAt t leaf .action))) where
+    (l : isLeaf t leaf ≡ true) (b : k < length (improvements s (ruleAt t leaf .action))) where
   abbrev now : State
   now = at s t i r (phase5 leaf best k kept)
 
@@ -150,20 +155,23 @@ module _
       ∙ ap embed (sym (plain-last-nothing now leaf))
   after-embeds (just j y) q =
       let few = candidates-few s (ruleAt t leaf .action) in
-      let a = getD (candidatesOf s (ruleAt t leaf .action)) j noCandidate in
+      let a = getD (improvements s (ruleAt t leaf .action)) j noCandidate in
       last-is mine j y
-      ∙ ap (λ (z : Bool). cond z (layer.marked mine (embedTree t)) (layer.tryFrom mine (withAction (embedTree t) leaf (getD (candidatesOf s (leafAction mine)) j noCandidate)) y))
+      ∙ ap (λ (z : Bool). cond z (layer.marked mine (embedTree t)) (layer.tryFrom mine (withAction (embedTree t) leaf (getD (candidatesOf s (leafAction mine)) j theirs.noCandidate)) y))
       (ne-eqb j none (λ z. absurd (omega arith)))
-      ∙ ap (λ (c : Action). layer.tryFrom mine (withAction (embedTree t) leaf (getD (candidatesOf s c) j noCandidate)) y) action-is
+      ∙ ap (λ (c : Action). layer.tryFrom mine (withAction (embedTree t) leaf (getD (candidatesOf s c) j theirs.noCandidate)) y) action-is
+      ∙ ap (λ (c : Action). layer.tryFrom mine (withAction (embedTree t) leaf c) y) (candidate-same s (ruleAt t leaf .action) j (omega arith))
       ∙ ap (λ (w : RuleTree). layer.tryFrom mine w y) (sym (action-embeds t leaf v l a))
-      ∙ try-embeds mine t (setAction t leaf a) (phase5 leaf best k kept) (action-valid t v leaf l a (candidate-valid s h (ruleAt t leaf .action) j (omega arith))) l y
+      ∙ try-embeds mine t (setAction t leaf a) (phase5 leaf best k kept) (action-valid t v leaf l a (candidate-valid s (ruleAt t leaf .action) j (omega arith) h)) l y
       ∙ ap embed (sym (plain-last-just now leaf j y))
 
   tried-embeds : (m : Kept) → Among (k + 1) m → layer.tried mine (keptNumber m) (keptScore m) ≡ embed (answer5 now leaf best k m)
   tried-embeds m q =
       tried-is mine (keptNumber m) (keptScore m)
       ∙ ap (λ (c : Action). cond (ltb (k + 1) (length (candidatesOf s c))) (trying s (embedTree t) i r leaf best (k + 1) (keptNumber m) (keptScore m)) (layer.afterLast mine (keptNumber m) (keptScore m))) action-is
-      ∙ go (ltb (k + 1) (length (candidatesOf s (ruleAt t leaf .action))))
+      ∙ ap (λ (xs : List Action). cond (ltb (k + 1) (length xs)) (trying s (embedTree t) i r leaf best (k + 1) (keptNumber m) (keptScore m)) (layer.afterLast mine (keptNumber m) (keptScore m)))
+      (sym (candidates-same s (ruleAt t leaf .action)))
+      ∙ go (ltb (k + 1) (length (candidates now t leaf)))
       ∙ ap embed (sym (plain-tried-is now leaf best k m))
     where
       go :
@@ -176,7 +184,7 @@ module _
 -- ---- the score of candidate k
 module _
     (s : Settings) (h : settingsHold s ≡ true) (t : Tree) (v : ValidTree t) (i r leaf : ℕ) (best : Float) (k : ℕ) (x : Float)
-    (l : isLeaf t leaf ≡ true) (b : k < length (candidatesOf s (ruleAt t leaf .action))) where
+    (l : isLeaf t leaf ≡ true) (b : k < length (improvements s (ruleAt t leaf .action))) where
   keep-embeds :
       (kept : Kept) → Among k kept
       → layer.phase5 (its s t i r leaf best k kept) x

@@ -5,12 +5,15 @@ use Prim.Native.Nat.{ℕ, _+_, _≤_}
 use native.Mathlib.Omega.{arith}
 use borrow.Author.Tests.{ltb-true, ltb-false}
 use lib.Dec.{ltb}
+use Rattle.remy.specs.Cube.{usualEnds}
 use Rattle.rule_tree.specs.declared.RuleTree.{RuleTree}
+use Rattle.rule_tree.proofs.Changing.{usual-ends}
 use Rattle.trainer.specs.declared.settings.Settings.{Settings}
 use Rattle.trainer.specs.Settings.{settingsHold}
 use Rattle.trainer.specs.State.{stand}
 use Rattle.trainer.specs.Phases as layer
 use Rattle.trainer.specs.Calls.{started}
+use Rattle.record.proofs.BytesFit.{ends-fit}
 use Rattle.promise.specs.PlainTree.{Tree, rootLeaf}
 use Rattle.promise.specs.PlainTrainer.{phase1, phase3, phase6, at, beginLaterStage, beginRound, start}
 use Rattle.promise.proofs.Embed.{embedTree, ValidTree}
@@ -46,7 +49,8 @@ round-embeds s t i r = round-is s (embedTree t) i r ∙ go (ltb r (s .rounds)) �
 
 pub start-embeds : (s : Settings) → embed (start s) ≡ started s
 start-embeds s =
-    sym (round-embeds s (rootLeaf (s .«default_action»)) 0 0) ∙ ap (λ (q : RuleTree). layer.beginRound s q 0 0) (root-embeds (s .«default_action»))
+    sym (round-embeds s (rootLeaf usualEnds (s .«default_action»)) 0 0)
+    ∙ ap (λ (q : RuleTree). layer.beginRound s q 0 0) (root-embeds usualEnds (s .«default_action»))
 
 module _ (s : Settings) (h : settingsHold s ≡ true) (t : Tree) (v : ValidTree t) where
   stage-valid : (i : ℕ) → i ≤ s .«rule_splits» → ValidState (beginLaterStage s t (i + 1))
@@ -70,5 +74,8 @@ module _ (s : Settings) (h : settingsHold s ≡ true) (t : Tree) (v : ValidTree 
       go true e = record { settings = h; tree = v; phase = record { stage = l; round = ltb-true r (s .rounds) e } }
       go false e = stage-valid i l
 
+-- ---- the start
 pub start-valid : (s : Settings) → settingsHold s ≡ true → ValidState (start s)
-start-valid s h = round-valid s h (rootLeaf (s .«default_action»)) (root-valid (s .«default_action») (default-valid s h)) 0 0 (omega arith)
+start-valid s h =
+    round-valid s h (rootLeaf usualEnds (s .«default_action»))
+    (root-valid usualEnds (s .«default_action») usual-ends ends-fit (default-valid s h)) 0 0 (omega arith)

@@ -1,169 +1,153 @@
--- A list of candidates has at most 4,096 actions, all of them valid. Assumes nothing.
+-- The plain trainer's candidates are the trainer's, at most 4,096 and all of them valid. Assumes nothing.
 use mathlib.Core.Path.{_≡_, refl, sym, ap, _∙_}
-use mathlib.Core.Bool.{Bool, true, false, _&&_, cond}
-use mathlib.Core.List.{List, [], _∷_, map}
-use Prim.Native.Nat.{ℕ, zero, suc, _*_, _<_, _≤_}
+use mathlib.Core.Bool.{Bool, true, false, cond}
+use mathlib.Core.List.{List, [], _∷_, map, flatMap}
+use Prim.Native.Nat.{ℕ, zero, suc, _<_, _≤_}
 use native.Mathlib.Omega.{arith}
-use borrow.Author.Tests.{leb-true, le-leb}
+use borrow.Author.Tests.{leb-true}
 use lib.Dec.{leb}
-use lib.ListN.{length, getD, length-append, length-map}
-use lib.IntN.{ℤ, pos, negsuc, negℤ, _*ℤ_}
+use lib.ListN.{length, getD}
+use lib.IntN.{ℤ, pos, _*ℤ_}
 use lib.Signed.{leZ}
-use lib.Ieee.{Float, nan, inf, fin, le, neg, mul, binary64}
-use lib.Ieee.Scale.{finite}
+use lib.Ieee.{Float, binary64, mul, le, ofInt}
 use Rattle.remy.specs.declared.action.Action.{Action}
-use Rattle.remy.specs.Action.{validOf}
-use Rattle.rule_tree.proofs.Counting.{and-left, and-right, and-both}
+use Rattle.remy.specs.Action.{actionOf, validOf}
 use Rattle.trainer.specs.declared.settings.Settings.{Settings}
-use Rattle.trainer.specs.Settings.{floatAxis, wholeAxis, multiplierAxis, incrementAxis, delayAxis, numbersHold, actionsHold, changesHold, axesHold, settingsHold}
-use Rattle.trainer.specs.Candidates.{flatMap, filter, floatChanges, wholeChanges, changed, allChanges, insideOf, candidatesOf, noCandidate}
-use Rattle.promise.proofs.Links.{no}
+use Rattle.trainer.specs.Settings.{numbersHold, actionsHold, axesHold, settingsHold}
+use Rattle.trainer.specs.Settings as theirs
+use Rattle.trainer.specs.Candidates.{filter, candidatesOf}
+use Rattle.trainer.specs.Candidates as those
+use Rattle.trainer.specs.Axes.{multiplierSums, incrementSums, delaySums}
+use Rattle.trainer.proofs.Lists.{getD-any}
+use Rattle.trainer.proofs.Product as its
+use Rattle.trainer.proofs.Holds.{and-left, and-right, parts, min-valid, max-valid}
+use Rattle.trainer.proofs.AcceptedFacts.{few-splits, few-rounds}
+use Rattle.trainer.proofs.CandidateLaws as laws
+use Rattle.promise.specs.PlainCandidates as plain
+use Rattle.promise.specs.PlainCandidates.{improvements, noCandidate}
 
--- ---- lengths
-axis-float : (n : ℕ) (times x max : Float) → length (floatAxis n times x max) ≤ n
-unfolding floatAxis
-axis-float zero times x max = omega arith
-axis-float (suc n) times x max = go (le x max) (axis-float n times (mul binary64 times x) max)
+-- ---- the same lists
+pub float-axis : (n : ℕ) (t x max : Float) → plain.while (λ (v : Float). le v max) (plain.growing n (mul binary64 t) x) ≡ theirs.floatAxis n t x max
+unfolding plain.while plain.growing theirs.floatAxis
+float-axis zero t x max = refl
+float-axis (suc n) t x max = ap (λ (vs : List Float). cond (le x max) (x ∷ vs) []) (float-axis n t (mul binary64 t x) max)
+
+pub whole-axis : (n : ℕ) (t x max : ℤ) → plain.while (λ (v : ℤ). leZ v max) (plain.growing n (_*ℤ_ t) x) ≡ theirs.wholeAxis n t x max
+unfolding plain.while plain.growing theirs.wholeAxis
+whole-axis zero t x max = refl
+whole-axis (suc n) t x max = ap (λ (vs : List ℤ). cond (leZ x max) (x ∷ vs) []) (whole-axis n t (t *ℤ x) max)
+
+same-flat : {A B : Type 0} (f g : A → List B) → ((x : A) → f x ≡ g x) → (xs : List A) → flatMap f xs ≡ those.flatMap g xs
+unfolding flatMap those.flatMap
+same-flat f g h [] = refl
+same-flat f g h (x ∷ xs) = rw (h x, same-flat f g h xs)
+
+same-those : {A : Type 0} (keep : A → Bool) (xs : List A) → plain.those keep xs ≡ filter keep xs
+unfolding plain.those filter
+same-those keep [] = refl
+same-those keep (x ∷ xs) = rw (same-those keep xs)
+
+-- the sums that are kept of an axis
+same-sums :
+    {A : Type 0} (keep : A → Bool) (sum minus : A → A) (xs ys : List A) → xs ≡ ys
+    → plain.those keep (map sum (plain.inTurn minus xs)) ≡ filter keep (map sum (those.flatMap (λ (v : A). v ∷ minus v ∷ []) ys))
+same-sums {A} keep sum minus xs ys e =
+    same-those keep (map sum (plain.inTurn minus xs))
+    ∙ ap (λ (vs : List A). filter keep (map sum vs))
+    (ap (plain.inTurn minus) e ∙ same-flat (λ (v : A). v ∷ (minus v ∷ [])) (λ (v : A). v ∷ minus v ∷ []) (λ v. refl) ys)
+
+module _ (s : Settings) (a : Action) where
+  same-multipliers : plain.floatSums plain.multiplierOf s a ≡ multiplierSums s a
+  same-multipliers = same-sums _ _ _ _ _ (float-axis 8 _ _ _)
+
+  same-increments : plain.wholeSums plain.incrementOf s a ≡ incrementSums s a
+  same-increments = same-sums _ _ _ _ _ (whole-axis 8 _ _ _)
+
+  same-delays : plain.floatSums plain.delayOf s a ≡ delaySums s a
+  same-delays = same-sums _ _ _ _ _ (float-axis 8 _ _ _)
+
+  same-product :
+      (ms : List Float) (is : List ℤ) (ds : List Float)
+      → flatMap (λ (m : Float). flatMap (λ (i : ℤ). map (λ (d : Float). actionOf m i d) ds) is) ms ≡ its.product ms is ds
+  same-product ms is ds = same-flat _ (its.plane is ds) (λ m. same-flat _ (its.row ds m) (λ i. refl) is) ms
+
+  -- the plain trainer's candidates are the trainer's, for any settings and any action
+  pub candidates-same : improvements s a ≡ candidatesOf s a
+  unfolding improvements
+  candidates-same =
+      same-product (plain.floatSums plain.multiplierOf s a) (plain.wholeSums plain.incrementOf s a) (plain.floatSums plain.delayOf s a)
+      ∙ rw (same-multipliers, same-increments, same-delays) (sym (its.candidates-are s a))
+
+  pub candidates-few : length (improvements s a) ≤ 4096
+  candidates-few = rw candidates-same (laws.candidates-few s a)
+
+  module _ (j : ℕ) (l : j < length (improvements s a)) where
+    listed : j < length (candidatesOf s a)
+    listed = rw candidates-same at l
+
+    pub candidate-same : getD (candidatesOf s a) j those.noCandidate ≡ getD (improvements s a) j noCandidate
+    candidate-same = getD-any (candidatesOf s a) j those.noCandidate noCandidate listed ∙ sym (ap (λ (xs : List Action). getD xs j noCandidate) candidates-same)
+
+    pub candidate-valid : settingsHold s ≡ true → validOf (getD (improvements s a) j noCandidate) ≡ true
+    candidate-valid h = rw candidates-same (laws.candidate-valid s a j noCandidate h listed)
+
+-- ---- "more than 8 values is refused": an axis of settings that hold has no more than its first 8
+enough :
+    {A : Type 0} (test : A → Bool) (times : A → A) (m n : ℕ) (x : A) → m ≤ n → length (plain.while test (plain.growing (suc m) times x)) ≤ m
+    → plain.while test (plain.growing n times x) ≡ plain.while test (plain.growing m times x)
+unfolding plain.while plain.growing
+enough test times zero zero x h l = refl
+enough test times zero (suc n) x h l = go (test x) l
   where
-    go : (b : Bool) → length (floatAxis n times (mul binary64 times x) max) ≤ n → length (cond b (x ∷ floatAxis n times (mul binary64 times x) max) []) ≤ suc n
-    go true h = omega arith
-    go false h = omega arith
-
-axis-whole : (n : ℕ) (times x max : ℤ) → length (wholeAxis n times x max) ≤ n
-unfolding wholeAxis
-axis-whole zero times x max = omega arith
-axis-whole (suc n) times x max = go (leZ x max) (axis-whole n times (times *ℤ x) max)
+    go : (b : Bool) → length (cond b (x ∷ []) []) ≤ 0 → cond b (x ∷ plain.while test (plain.growing n times (times x))) [] ≡ []
+    go true l = absurd (omega arith)
+    go false l = refl
+enough test times (suc m) zero x h l = absurd (omega arith)
+enough {A} test times (suc m) (suc n) x h l = go (test x) (λ r. enough test times m n (times x) (omega arith) r) l
   where
-    go : (b : Bool) → length (wholeAxis n times (times *ℤ x) max) ≤ n → length (cond b (x ∷ wholeAxis n times (times *ℤ x) max) []) ≤ suc n
-    go true h = omega arith
-    go false h = omega arith
+    rest : ℕ → List A
+    rest k = plain.while test (plain.growing k times (times x))
 
-flat-length : {A B : Type 0} (f : A → List B) (m : ℕ) (xs : List A) → ((x : A) → length (f x) ≤ m) → length (flatMap f xs) ≤ m * length xs
-unfolding flatMap
-flat-length f m [] h = omega arith
-flat-length f m (x ∷ xs) h = omega (arith, length-append (f x) (flatMap f xs), h x, flat-length f m xs h)
-
-filter-length : {A : Type 0} (keep : A → Bool) (xs : List A) → length (filter keep xs) ≤ length xs
-unfolding filter
-filter-length keep [] = omega arith
-filter-length keep (x ∷ xs) = go (keep x) (filter-length keep xs)
-  where
-    go : (b : Bool) → length (filter keep xs) ≤ length xs → length (cond b (x ∷ filter keep xs) (filter keep xs)) ≤ suc (length xs)
-    go true h = omega arith
-    go false h = omega arith
-
-pub candidates-are : (s : Settings) (a : Action) → candidatesOf s a ≡ filter (insideOf s) (allChanges s a)
-unfolding candidatesOf
-candidates-are s a = refl
-
-pub candidates-few : (s : Settings) (a : Action) → length (candidatesOf s a) ≤ 4096
-candidates-few s a =
-    let ms = floatChanges (multiplierAxis 8 s) in
-    let is = wholeChanges (incrementAxis 8 s) in
-    let ds = floatChanges (delayAxis 8 s) in
-    let m : length ms ≤ 2 * length (multiplierAxis 8 s) = flat-length (λ (v : Float). v ∷ neg v ∷ []) 2 (multiplierAxis 8 s) (λ v. omega arith) in
-    let i : length is ≤ 2 * length (incrementAxis 8 s) = flat-length (λ (v : ℤ). v ∷ negℤ v ∷ []) 2 (incrementAxis 8 s) (λ v. omega arith) in
-    let d : length ds ≤ 2 * length (delayAxis 8 s) = flat-length (λ (v : Float). v ∷ neg v ∷ []) 2 (delayAxis 8 s) (λ v. omega arith) in
-    let m8 : length (multiplierAxis 8 s) ≤ 8 = axis-float 8 _ _ _ in
-    let i8 : length (incrementAxis 8 s) ≤ 8 = axis-whole 8 _ _ _ in
-    let d8 : length (delayAxis 8 s) ≤ 8 = axis-float 8 _ _ _ in
-    let one : (w : Float) (j : ℤ) → length (map (λ (v : Float). changed a w j v) ds) ≤ 16 = λ w j. omega (arith, length-map ds (λ (v : Float). changed a w j v)) in
-    let two : (w : Float) → length (flatMap (λ (j : ℤ). map (λ (v : Float). changed a w j v) ds) is) ≤ 16 * length is
-    = λ w. flat-length (λ (j : ℤ). map (λ (v : Float). changed a w j v) ds) 16 is (one w) in
-    let three : length (allChanges s a) ≤ 256 * length ms
-    = flat-length (λ (w : Float). flatMap (λ (j : ℤ). map (λ (v : Float). changed a w j v) ds) is) 256 ms (λ w. omega (arith, two w)) in
-    omega (arith, ap length (candidates-are s a), filter-length (insideOf s) (allChanges s a))
-
--- ---- what is kept
-filter-kept : {A : Type 0} (keep : A → Bool) (xs : List A) (d : A) (j : ℕ) → j < length (filter keep xs) → keep (getD (filter keep xs) j d) ≡ true
-unfolding filter
-filter-kept keep [] d j l = absurd (omega arith)
-filter-kept {A} keep (x ∷ xs) d j l = go (keep x) refl j l (filter-kept keep xs d)
-  where
     go :
-        (b : Bool) → keep x ≡ b → (j : ℕ) → j < length (cond b (x ∷ filter keep xs) (filter keep xs))
-        → ((j : ℕ) → j < length (filter keep xs) → keep (getD (filter keep xs) j d) ≡ true)
-        → keep (getD (cond b (x ∷ filter keep xs) (filter keep xs)) j d) ≡ true
-    go true e zero l r = e
-    go true e (suc j) l r = r j (omega arith)
-    go false e j l r = r j l
+        (b : Bool) → (length (rest (suc m)) ≤ m → rest n ≡ rest m) → length (cond b (x ∷ rest (suc m)) []) ≤ suc m
+        → cond b (x ∷ rest n) [] ≡ cond b (x ∷ rest m) []
+    go true f l = ap (λ (vs : List A). x ∷ vs) (f (omega arith))
+    go false f l = refl
 
-between-finite : (lo x hi : Float) → finite lo ≡ true → finite hi ≡ true → le lo x ≡ true → le x hi ≡ true → finite x ≡ true
-unfolding le
-between-finite nan x hi p q a b = absurd (no true refl (sym p))
-between-finite (inf s) x hi p q a b = absurd (no true refl (sym p))
-between-finite (fin s m e) nan hi p q a b = absurd (no true refl (sym a))
-between-finite (fin s m e) (fin t n d) hi p q a b = refl
-between-finite (fin s m e) (inf true) hi p q a b = absurd (no true refl (sym a))
-between-finite (fin s m e) (inf false) nan p q a b = absurd (no true refl (sym b))
-between-finite (fin s m e) (inf false) (inf t) p q a b = absurd (no true refl (sym q))
-between-finite (fin s m e) (inf false) (fin t n d) p q a b = absurd (no true refl (sym b))
+module _ (s : Settings) (h : settingsHold s ≡ true) (n : ℕ) (m : 8 ≤ n) where
+  axes-few :
+      (length (theirs.multiplierAxis 9 s) ≤ 8) × ((length (theirs.incrementAxis 9 s) ≤ 8) × (length (theirs.delayAxis 9 s) ≤ 8))
+  unfolding axesHold
+  axes-few =
+      let all = parts s h .3 in
+      let r = and-right (leb (length (theirs.multiplierAxis 9 s)) 8) _ all in (
+        leb-true _ 8 (and-left (leb (length (theirs.multiplierAxis 9 s)) 8) _ all),
+        (leb-true _ 8 (and-left (leb (length (theirs.incrementAxis 9 s)) 8) _ r), leb-true _ 8 (and-right (leb (length (theirs.incrementAxis 9 s)) 8) _ r)),
+      )
 
-leZ-trans : (a b c : ℤ) → leZ a b ≡ true → leZ b c ≡ true → leZ a c ≡ true
-leZ-trans (pos a) (pos b) (pos c) h k = le-leb a c (omega (arith, leb-true a b h, leb-true b c k))
-leZ-trans (pos a) (pos b) (negsuc c) h k = k
-leZ-trans (pos a) (negsuc b) c h k = absurd (no true refl (sym h))
-leZ-trans (negsuc a) b (pos c) h k = refl
-leZ-trans (negsuc a) (pos b) (negsuc c) h k = absurd (no true refl (sym k))
-leZ-trans (negsuc a) (negsuc b) (negsuc c) h k = le-leb c a (omega (arith, leb-true b a h, leb-true c b k))
+  float-whole :
+      (part : Action → Float) → let t = ofInt binary64 (pos (s .multiplier)) in
+      length (theirs.floatAxis 9 t (part (s .«initial_change»)) (part (s .«max_change»))) ≤ 8 → plain.floatAxis n part s ≡ plain.floatAxis 8 part s
+  float-whole part l =
+      let t = ofInt binary64 (pos (s .multiplier)) in
+      enough (λ (v : Float). le v (part (s .«max_change»))) (mul binary64 t) 8 n (part (s .«initial_change»)) m
+      (rw (float-axis 9 t (part (s .«initial_change»)) (part (s .«max_change»))) l)
 
-pub record Valid (a : Action) : Type 0 where
-  pub multiplier : finite (a .«window_multiplier») ≡ true
-  pub delay : finite (a .«intersend_delay» .0) ≡ true
-  pub low : leZ (negsuc 999999) (a .«window_increment») ≡ true
-  pub high : leZ (a .«window_increment») (pos 1000000) ≡ true
-
-pub valid-parts : (a : Action) → validOf a ≡ true → Valid a
-unfolding validOf
-valid-parts a h =
-    let r = and-right (finite (a .«window_multiplier»)) _ h in
-    let z = and-right (finite (a .«intersend_delay» .0)) _ r in
-    record {
-      multiplier = and-left (finite (a .«window_multiplier»)) _ h;
-      delay = and-left (finite (a .«intersend_delay» .0)) _ r;
-      low = and-left (leZ (negsuc 999999) (a .«window_increment»)) _ z;
-      high = and-right (leZ (negsuc 999999) (a .«window_increment»)) _ z;
-    }
-
-parts-valid : (a : Action) → Valid a → validOf a ≡ true
-unfolding validOf
-parts-valid a v = and-both (finite (a .«window_multiplier»)) _ (v .multiplier) (and-both (finite (a .«intersend_delay» .0)) _ (v .delay) (and-both (leZ (negsuc 999999) (a .«window_increment»)) _ (v .low) (v .high)))
-
-inside-valid : (s : Settings) (a : Action) → Valid (s .«min_action») → Valid (s .«max_action») → insideOf s a ≡ true → Valid a
-unfolding insideOf
-inside-valid s a lo hi h =
-    let lm = le (s .«min_action» .«window_multiplier») (a .«window_multiplier») in
-    let hm = le (a .«window_multiplier») (s .«max_action» .«window_multiplier») in
-    let li = leZ (s .«min_action» .«window_increment») (a .«window_increment») in
-    let hi' = leZ (a .«window_increment») (s .«max_action» .«window_increment») in
-    let ld = le (s .«min_action» .«intersend_delay» .0) (a .«intersend_delay» .0) in
-    let hd = le (a .«intersend_delay» .0) (s .«max_action» .«intersend_delay» .0) in
-    let m = and-left (lm && hm) ((li && hi') && (ld && hd)) h in
-    let r = and-right (lm && hm) ((li && hi') && (ld && hd)) h in
-    let i = and-left (li && hi') (ld && hd) r in
-    let d = and-right (li && hi') (ld && hd) r in
-    record {
-      multiplier = between-finite _ _ _ (lo .multiplier) (hi .multiplier) (and-left lm hm m) (and-right lm hm m);
-      delay = between-finite _ _ _ (lo .delay) (hi .delay) (and-left ld hd d) (and-right ld hd d);
-      low = leZ-trans (negsuc 999999) (s .«min_action» .«window_increment») (a .«window_increment») (lo .low) (and-left li hi' i);
-      high = leZ-trans (a .«window_increment») (s .«max_action» .«window_increment») (pos 1000000) (and-right li hi' i) (hi .high);
-    }
+  pub axes-whole :
+      (plain.floatAxis n plain.multiplierOf s ≡ plain.floatAxis 8 plain.multiplierOf s)
+      × ((plain.wholeAxis n plain.incrementOf s ≡ plain.wholeAxis 8 plain.incrementOf s)
+      × (plain.floatAxis n plain.delayOf s ≡ plain.floatAxis 8 plain.delayOf s))
+  axes-whole =
+      let first = s .«initial_change» .«window_increment» in
+      let most = s .«max_change» .«window_increment» in (
+        float-whole plain.multiplierOf (axes-few .0),
+        (
+          enough (λ (v : ℤ). leZ v most) (_*ℤ_ (pos (s .multiplier))) 8 n first m (rw (whole-axis 9 (pos (s .multiplier)) first most) (axes-few .1 .0)),
+          float-whole plain.delayOf (axes-few .1 .1),
+        ),
+      )
 
 -- ---- settings that hold
-settings-are : (s : Settings) → settingsHold s ≡ (numbersHold s && (actionsHold s && (changesHold s && axesHold s)))
-unfolding settingsHold
-settings-are s = refl
-
-actions-are :
-    (s : Settings)
-    → actionsHold s ≡ (validOf (s .«min_action») && (validOf (s .«max_action») && (validOf (s .«initial_change») && (validOf (s .«max_change») && validOf (s .«default_action»)))))
-unfolding actionsHold
-actions-are s = refl
-
-numbers-are : (s : Settings) → numbersHold s ≡ (leb (s .«rule_splits») 64 && (leb (s .rounds) 1000 && (leb 2 (s .multiplier) && leb (s .multiplier) 16)))
-unfolding numbersHold
-numbers-are s = refl
-
 -- what settings that are taken hold
 pub record Held (s : Settings) : Type 0 where
   pub splits : s .«rule_splits» ≤ 64
@@ -176,34 +160,23 @@ pub record Held (s : Settings) : Type 0 where
   pub default : validOf (s .«default_action») ≡ true
 
 pub settings-facts : (s : Settings) → settingsHold s ≡ true → Held s
+unfolding numbersHold actionsHold
 settings-facts s h =
-    let all = sym (settings-are s) ∙ h in
-    let ns = sym (numbers-are s) ∙ and-left (numbersHold s) _ all in
-    let n2 = and-right (leb (s .«rule_splits») 64) _ ns in
-    let n3 = and-right (leb (s .rounds) 1000) _ n2 in
-    let acts = sym (actions-are s) ∙ and-left (actionsHold s) _ (and-right (numbersHold s) _ all) in
-    let a2 = and-right (validOf (s .«min_action»)) _ acts in
-    let a3 = and-right (validOf (s .«max_action»)) _ a2 in
-    let a4 = and-right (validOf (s .«initial_change»)) _ a3 in
+    let numbers = parts s h .0 in
+    let acts = and-right (validOf (s .«min_action»)) _ (parts s h .1) in
+    let changes = and-right (validOf (s .«max_action»)) _ acts in
+    let last = and-right (validOf (s .«initial_change»)) _ changes in
     record {
-      splits = leb-true (s .«rule_splits») 64 (and-left (leb (s .«rule_splits») 64) _ ns);
-      rounds = leb-true (s .rounds) 1000 (and-left (leb (s .rounds) 1000) _ n2);
-      multiplier = leb-true (s .multiplier) 16 (and-right (leb 2 (s .multiplier)) _ n3);
-      least = and-left (validOf (s .«min_action»)) _ acts;
-      most = and-left (validOf (s .«max_action»)) _ a2;
-      initial = and-left (validOf (s .«initial_change»)) _ a3;
-      largest = and-left (validOf (s .«max_change»)) _ a4;
-      default = and-right (validOf (s .«max_change»)) _ a4;
+      splits = few-splits s h;
+      rounds = few-rounds s h;
+      multiplier = leb-true (s .multiplier) 16
+          (and-right (leb 2 (s .multiplier)) _ (and-right (leb (s .rounds) 1000) _ (and-right (leb (s .«rule_splits») 64) _ numbers)));
+      least = min-valid s h;
+      most = max-valid s h;
+      initial = and-left (validOf (s .«initial_change»)) _ changes;
+      largest = and-left (validOf (s .«max_change»)) _ last;
+      default = and-right (validOf (s .«max_change»)) _ last;
     }
 
-module _ (s : Settings) (h : settingsHold s ≡ true) where
-  pub default-valid : validOf (s .«default_action») ≡ true
-  default-valid = settings-facts s h .default
-
-  pub candidate-valid : (a : Action) (j : ℕ) → j < length (candidatesOf s a) → validOf (getD (candidatesOf s a) j noCandidate) ≡ true
-  candidate-valid a j l =
-      let e = candidates-are s a in
-      let k : j < length (filter (insideOf s) (allChanges s a)) = omega (arith, ap length e) in
-      ap (λ (xs : List Action). validOf (getD xs j noCandidate)) e
-      ∙ parts-valid (getD (filter (insideOf s) (allChanges s a)) j noCandidate)
-      (inside-valid s _ (valid-parts _ (settings-facts s h .least)) (valid-parts _ (settings-facts s h .most)) (filter-kept (insideOf s) (allChanges s a) noCandidate j k))
+pub default-valid : (s : Settings) → settingsHold s ≡ true → validOf (s .«default_action») ≡ true
+default-valid s h = settings-facts s h .default

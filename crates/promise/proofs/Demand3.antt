@@ -1,6 +1,6 @@
 -- Demand 3, whole: over every list of calls to a trainer that starts fresh, and every list of calls to a sender over its trees.
 -- Assumes nothing.
-use mathlib.Core.Path.{_≡_, refl, sym, ap, subst, _∙_}
+use mathlib.Core.Path.{_≡_, sym, ap, subst, _∙_}
 use mathlib.Core.Bool.{true}
 use mathlib.Core.List.{List}
 use Prim.Native.Nat.{ℕ}
@@ -11,30 +11,22 @@ use Rattle.trainer.specs.declared.Trainer.{Trainer}
 use Rattle.trainer.specs.Settings.{settingsHold}
 use Rattle.trainer.specs.Calls.{startOf, questionOf}
 use Rattle.record.specs.Write.{recordOf}
-use Rattle.promise.specs.PlainTrainer.{Phase, phase1, phase2, phase3, phase4, phase5, phase6, phase7, Call, start}
+use Rattle.promise.specs.PlainTrainer.{Call, start}
 use Rattle.promise.specs.Values.{Every, FitSettings, FitCall}
 use Rattle.promise.specs.Demand3.{eventsOf, endOf, plainEnd, treeAfter, plainTreeAfter, Parted, SameTree, Demand3}
 use Rattle.promise.proofs.Embed.{embedTree, ValidTree}
-use Rattle.promise.proofs.States.{embedIn, embed}
+use Rattle.promise.proofs.States.{embed}
+use Rattle.promise.proofs.Accepted.{tree-of}
 use Rattle.promise.proofs.Begins.{start-valid}
 use Rattle.promise.proofs.Questions.{question-embeds}
 use Rattle.promise.proofs.Records.{record-embeds}
 use Rattle.promise.proofs.Fitting.{every-take, start-fits}
 use Rattle.promise.proofs.Runs.{events-embed, end-embeds, end-valid, starts-taken, starts-alike}
-use Rattle.promise.proofs.Ways.{tree-parted, tree-same, way-events, way-ack}
-
-tree-of : (s : Settings) (t : RuleTree) (i r : ℕ) (p : Phase) → embedIn s t i r p .tree ≡ t
-tree-of s t i r phase1 = refl
-tree-of s t i r phase2 = refl
-tree-of s t i r phase3 = refl
-tree-of s t i r (phase4 leaf) = refl
-tree-of s t i r (phase5 leaf best k kept) = refl
-tree-of s t i r phase6 = refl
-tree-of s t i r phase7 = refl
+use Rattle.promise.proofs.Ways.{tree-parted, tree-same, way-events, way-left, way-ack, way-unmoved, way-send, way-tick}
 
 module _ (s : Settings) (h : settingsHold s ≡ true) (f : FitSettings s) (cs : List Call) (c : Every FitCall cs) where
   ends-alike : (ds : List Call) → Every FitCall ds → endOf (startOf s .trainer) ds ≡ embed (plainEnd (start s) ds)
-  ends-alike ds d = ap (λ (t : Trainer). endOf t ds) (starts-alike s h) ∙ end-embeds (start s) ds (start-valid s h) (start-fits s f) d
+  ends-alike ds d = ap (λ (t : Trainer). endOf t ds) (starts-alike s h) ∙ end-embeds (start s) ds (start-valid s h) (start-fits s h f) d
 
   -- each tree on the way is the one that the plain trainer's stands for
   way-valid : (k : ℕ) → ValidTree (plainTreeAfter s cs k)
@@ -53,10 +45,14 @@ demand-3 s h f cs c =
     record {
       starts = starts-taken s h;
       asks = ap questionOf (starts-alike s h) ∙ question-embeds (start s) (start-valid s h);
-      events = ap (λ (t : Trainer). eventsOf t cs) (starts-alike s h) ∙ events-embed (start s) cs (start-valid s h) (start-fits s f) c;
+      events = ap (λ (t : Trainer). eventsOf t cs) (starts-alike s h) ∙ events-embed (start s) cs (start-valid s h) (start-fits s h f) c;
       final = ap recordOf (ends-alike s h f cs c cs c) ∙ record-embeds (plainEnd (start s) cs) (end-valid (start s) cs (start-valid s h));
       trees = λ k p. subst (λ (t : RuleTree). Parted t p) (sym (alike k)) (tree-parted (plainTreeAfter s cs k) (valid k) p);
       same = λ k. subst (λ (t : RuleTree). SameTree t (plainTreeAfter s cs k)) (sym (alike k)) (tree-same (plainTreeAfter s cs k) (valid k));
       senders = way-events (treeAfter s cs) (plainTreeAfter s cs) alike valid;
+      left = way-left (treeAfter s cs) (plainTreeAfter s cs) alike valid;
       acks = way-ack (treeAfter s cs) (plainTreeAfter s cs) alike valid;
+      unmoved = way-unmoved (treeAfter s cs) (plainTreeAfter s cs) alike valid;
+      sends = way-send (treeAfter s cs) (plainTreeAfter s cs) alike valid;
+      ticks = way-tick (treeAfter s cs) (plainTreeAfter s cs) alike valid;
     }

@@ -10,12 +10,13 @@ use lib.ListN.{length, getD, take}
 use lib.Seq.{ext-getD}
 use Rattle.remy.specs.declared.point.Point.{Point}
 use Rattle.remy.specs.Action.{validOf}
-use Rattle.remy.specs.Cube.{usualEnds}
 use Rattle.rule_tree.specs.declared.Node.{Node}
 use Rattle.rule_tree.specs.declared.RuleTree.{RuleTree}
 use Rattle.rule_tree.specs.Lists.{tabulate}
 use Rattle.rule_tree.specs.Nodes.{noNode, nodeAt, blankNode}
+use Rattle.rule_tree.specs.Grown.{endsHold}
 use Rattle.rule_tree.proofs.Lists.{length-tabulate, getD-tabulate}
+use Rattle.rule_tree.proofs.Plain.{PointFits}
 use Rattle.rule_tree.proofs.Counting.{and-left, and-right}
 use Rattle.promise.specs.PlainTree.{Tree, Rule, nodes, member, isLeaf, ruleAt}
 use Rattle.promise.proofs.Links.{link, link-owner, link-leaf}
@@ -32,15 +33,17 @@ unfoldable pub nodeOf : Tree → ℕ → Node
 nodeOf t i = cond (ltb i (nodes t)) (nodeWith (ruleAt t i) (link 0 (t .splits) i)) blankNode
 
 abbrev pub embedTree : Tree → RuleTree
-embedTree t = record { nodes = tabulate 513 (nodeOf t); splits = length (t .splits); ends = usualEnds }
+embedTree t = record { nodes = tabulate 513 (nodeOf t); splits = length (t .splits); ends = t .ends }
 
--- "at most 64 splits, each names a leaf then", one rule a node, and the actions valid
+-- "at most 64 splits, each names a leaf then", one rule a node, the actions valid, and upper ends that a tree may have
 pub record ValidTree (t : Tree) : Type 0 where
   pub few : length (t .splits) ≤ 64
   pub sized : length (t .rules) ≡ nodes t
   pub grew : (k : ℕ) → k < length (t .splits) → getD (t .splits) k 0 ≤ 8 * k
   pub once : (k : ℕ) → k < length (t .splits) → member (getD (t .splits) k 0) (take k (t .splits)) ≡ false
   pub actions : (i : ℕ) → i < nodes t → validOf (ruleAt t i .action) ≡ true
+  pub box : endsHold (t .ends) ≡ true
+  pub floats : PointFits (t .ends)
 
 -- ---- leaves
 module _ (t : Tree) (i : ℕ) where

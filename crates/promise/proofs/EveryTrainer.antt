@@ -20,11 +20,9 @@ use Rattle.record.specs.declared.Saved.{Saved}
 use Rattle.record.specs.declared.Saved.the-variants.{Size, Refused}
 use Rattle.record.specs.Write.{recordOf}
 use Rattle.record.specs.Calls.{saveOf, bufferAfter, loadOf}
-use Rattle.record.proofs.RoundTrip as stored
 use Rattle.promise.specs.PlainTrainer.{State, start, recordBytes, Call, counts, score, step, question}
-use Rattle.promise.proofs.Embed.{embedTree}
 use Rattle.promise.proofs.States.{embed, answered, ValidState}
-use Rattle.promise.proofs.Accepted.{settings-of, accepted-embeds}
+use Rattle.promise.proofs.Accepted.{accepted-embeds}
 use Rattle.promise.proofs.Begins.{start-embeds, start-valid}
 use Rattle.promise.proofs.AnswerCounts.{answer-counts-embeds}
 use Rattle.promise.proofs.AnswerScore.{answer-score-embeds}
@@ -33,23 +31,22 @@ use Rattle.promise.proofs.StepsKeep.{step-valid}
 use Rattle.promise.proofs.Records.{record-embeds}
 use Rattle.promise.specs.Values.{Every, FitSettings, FitCall}
 use Rattle.promise.specs.Demand3.{shownAs, eventsOf, endOf, plainEvents, plainEnd}
-use Rattle.promise.proofs.Fitting.{FitState, start-fits, step-fits}
-use Rattle.promise.proofs.Reload.{embed-typed, record-length, save-embeds, load-embeds}
+use Rattle.promise.proofs.Fitting.{FitState, settings-floats, start-fits, step-fits}
+use Rattle.promise.proofs.Reload.{record-length, save-embeds, load-embeds}
 use Rattle.promise.proofs.Runs.{events-embed, end-embeds, end-valid}
 use Rattle.promise.proofs.UnembedTree.{nodes-count}
 use Rattle.promise.proofs.Unembed.{TrainerFits, plainOf, accepted-grown, plain-embeds, plain-valid, plain-fits}
 
 -- ---- the trainer that a valid state stands for is of its types
-pub embed-fits : (st : State) → ValidState st → FitState st → TrainerFits (embed st)
-embed-fits st v f =
-    let w = embed-typed st v f in
+pub embed-fits : (st : State) → FitState st → TrainerFits (embed st)
+embed-fits st f =
     record {
-      sized = w .tree .full;
-      nodes = w .tree .actions;
-      ends = w .tree .ends;
-      settings = subst FitSettings (sym (settings-of (st .settings) (embedTree (st .tree)) (st .stage) (st .round) (st .phase))) (f .settings);
-      best = w .best;
-      score = w .score;
+      sized = f .tree .full;
+      nodes = f .tree .actions;
+      ends = f .tree .ends;
+      settings = settings-floats (embed st .settings) (f .settings);
+      best = f .best;
+      score = f .score;
     }
 
 -- ---- the start
@@ -58,7 +55,7 @@ module _ (s : Settings) (h : settingsHold s ≡ true) where
   start-accepted = ap acceptedOf (sym (start-embeds s)) ∙ accepted-embeds (start s) (start-valid s h)
 
   pub start-typed : FitSettings s → TrainerFits (started s)
-  start-typed f = subst TrainerFits (start-embeds s) (embed-fits (start s) (start-valid s h) (start-fits s f))
+  start-typed f = subst TrainerFits (start-embeds s) (embed-fits (start s) (start-fits s h f))
 
 buffer-is : (t : Trainer) (buf : List ℕ) (n : ℕ) → bufferAfter t buf (Size n) ≡ recordOf t ++ drop n buf
 unfolding bufferAfter
@@ -74,10 +71,6 @@ module _ (t : Trainer) (a : acceptedOf t ≡ true) (f : TrainerFits t) where
 
   fitting : FitState (plainOf t)
   fitting = plain-fits t a f
-
-  -- all of its values are of their types, whole numbers too
-  pub whole-typed : stored.TrainerFits t
-  whole-typed = subst stored.TrainerFits (plain-embeds t a f) (embed-typed (plainOf t) valid fitting)
 
   pub counts-step : (xs : List ℕ) → answerCountsOf t xs ≡ answered (step (plainOf t) (counts xs))
   unfolding step
@@ -132,12 +125,12 @@ module _ (t : Trainer) (a : acceptedOf t ≡ true) (f : TrainerFits t) where
   pub counts-typed : (xs : List ℕ) → TrainerFits (answerCountsOf t xs .trainer)
   counts-typed xs =
       subst (λ (r : Answered). TrainerFits (r .trainer)) (sym (counts-step xs))
-      (embed-fits (step (plainOf t) (counts xs) .state) (after (counts xs)) (step-fits (plainOf t) fitting (counts xs) tt))
+      (embed-fits (step (plainOf t) (counts xs) .state) (step-fits (plainOf t) valid fitting (counts xs) tt))
 
   pub score-typed : (x : Float) → T (fits binary64 x) → TrainerFits (answerScoreOf t x .trainer)
   score-typed x h =
       subst (λ (r : Answered). TrainerFits (r .trainer)) (sym (score-step x))
-      (embed-fits (step (plainOf t) (score x) .state) (after (score x)) (step-fits (plainOf t) fitting (score x) h))
+      (embed-fits (step (plainOf t) (score x) .state) (step-fits (plainOf t) valid fitting (score x) h))
 
   -- ---- lists of calls
   pub run-steps : (cs : List Call) → Every FitCall cs → eventsOf t cs ≡ plainEvents (plainOf t) cs

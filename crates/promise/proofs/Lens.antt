@@ -21,8 +21,8 @@ use Rattle.rule_tree.proofs.Changing.{fresh-length, split-length}
 use Rattle.rule_tree_laws.proofs.Lens.{rootSplit, root-split-grown, lens-most-used}
 use Rattle.sender.specs.declared.Average.the-variants.{Empty, Of}
 use Rattle.sender.specs.Memory.{averaged}
+use Rattle.record.proofs.BytesFit.{ends-fit}
 use Rattle.promise.specs.Demand3.{InLeaf, InNoLeaf}
-use Rattle.promise.proofs.SenderLeaf.{usual-fits}
 use Rattle.promise.proofs.Ways.{in-leaf, in-no-leaf}
 
 -- m times 2 ^ e, and one half
@@ -83,7 +83,7 @@ split-box a = refl
 
 module _ (a : Action) (v : validOf a ≡ true) (p : Point) where
   split-fits : PointFits (rootSplit a .ends)
-  split-fits = rw (split-box a) usual-fits
+  split-fits = rw (split-box a) ends-fit
 
   split-inside : (i : ℕ) → containsOf (rootOf usualEnds) p ≡ true → leafOf (rootSplit a) p ≡ i → InLeaf (rootSplit a) p i
   split-inside i e l = subst (InLeaf (rootSplit a) p) l (in-leaf (rootSplit a) (root-split-grown a v) (split-sized a) split-fits p (rw (split-box a) e))

@@ -1,11 +1,13 @@
 pub mod Links
 pub mod Embed
 pub mod TreeSteps
+pub mod TreeClears
 pub mod TreeKeeps
 pub mod Counted
 pub mod MostUsed
 pub mod TreeGrown
 pub mod Candidates
+pub mod PlainSettings
 pub mod States
 pub mod Accepted
 pub mod Begins
@@ -13,6 +15,7 @@ pub mod AnswerCounts
 pub mod AnswerScore
 pub mod Questions
 pub mod StepsKeep
+pub mod RecordParts
 pub mod Records
 pub mod Fitting
 pub mod Reload
@@ -24,8 +27,10 @@ pub mod SenderRun
 pub mod SenderAck
 pub mod Ways
 pub mod Demand3
+pub mod Originals
 pub mod Lens
 pub mod UnembedTree
 pub mod EveryTrainer
+pub mod ReadTypes
 pub mod Loads
 pub mod Unembed

@@ -3,6 +3,7 @@ use mathlib.Core.Path.{_≡_, refl, ap, _∙_}
 use mathlib.Core.Bool.{true}
 use Prim.Native.Nat.{ℕ}
 use lib.ListN.{getD}
+use Rattle.remy.specs.declared.action.Action.{Action}
 use Rattle.rule_tree.specs.declared.Node.{Node}
 use Rattle.trainer.specs.declared.settings.Settings.{Settings}
 use Rattle.trainer.specs.declared.Trainer.{Trainer}
@@ -10,11 +11,12 @@ use Rattle.trainer.specs.declared.Question.the-variants as declared
 use Rattle.trainer.specs.Candidates.{candidatesOf, noCandidate}
 use Rattle.trainer.specs.State.{acceptedOf}
 use Rattle.trainer.specs.Calls.{askedOf, questionOf}
-use Rattle.promise.specs.PlainTree.{Tree}
+use Rattle.promise.specs.PlainTree.{Tree, ruleAt}
 use Rattle.promise.specs.PlainTrainer.{State, Phase, phase1, phase2, phase3, phase4, phase5, phase6, phase7, at, progress, ask, question}
 use Rattle.promise.specs.Demand3.{shownAs}
 use Rattle.promise.proofs.Embed.{embedTree, ValidTree}
 use Rattle.promise.proofs.TreeKeeps.{leaf-node}
+use Rattle.promise.proofs.Candidates.{candidate-same}
 use Rattle.promise.proofs.Accepted.{accepted-embeds}
 use Rattle.promise.proofs.States.{embedIn, embed, ValidPhase, ValidState}
 
@@ -34,6 +36,7 @@ asked-in s t i r (phase4 leaf) v h =
 asked-in s t i r (phase5 leaf best k kept) v h =
     ap (λ (x : Node). declared.Score leaf (getD (candidatesOf s (x .action)) k noCandidate) (progress (at s t i r (phase5 leaf best k kept))))
     (leaf-node t v leaf (h .1 .0 .leaf))
+    ∙ ap (λ (a : Action). declared.Score leaf a (progress (at s t i r (phase5 leaf best k kept)))) (candidate-same s (ruleAt t leaf .action) k (h .1 .1 .below))
 asked-in s t i r phase6 v h = refl
 asked-in s t i r phase7 v h = refl
 

@@ -145,14 +145,14 @@ events-embed st (c ∷ cs) v f h =
     ap (λ (o : Step). record { refused = o .refused; size = o .size; saved = o .saved; asks = questionOf (o .trainer) } ∷ eventsOf (o .trainer) cs) (step-embeds st v f c)
     ∙ ap (λ (q : Question). eventOf (step st c) q ∷ eventsOf (embed (step st c .state)) cs) (question-embeds (step st c .state) w)
     ∙ ap (λ (es : List Event). eventOf (step st c) (shownAs (question (step st c .state))) ∷ es)
-    (events-embed (step st c .state) cs w (step-fits st f c (h .0)) (h .1))
+    (events-embed (step st c .state) cs w (step-fits st v f c (h .0)) (h .1))
 
 pub end-embeds : (st : State) (cs : List Call) → ValidState st → FitState st → Every FitCall cs → endOf (embed st) cs ≡ embed (plainEnd st cs)
 unfolding endOf plainEnd
 end-embeds st [] v f h = refl
 end-embeds st (c ∷ cs) v f h =
     ap (λ (o : Step). endOf (o .trainer) cs) (step-embeds st v f c)
-    ∙ end-embeds (step st c .state) cs (step-valid st v c) (step-fits st f c (h .0)) (h .1)
+    ∙ end-embeds (step st c .state) cs (step-valid st v c) (step-fits st v f c (h .0)) (h .1)
 
 pub end-valid : (st : State) (cs : List Call) → ValidState st → ValidState (plainEnd st cs)
 unfolding plainEnd

@@ -9,10 +9,9 @@ use native.Mathlib.Omega.{arith}
 use borrow.Author.Tests.{not-true}
 use lib.ListN.{length, getD}
 use lib.Seq.{getD-take}
-use lib.Ieee.{fits}
 use Rattle.remy.specs.declared.point.Point.{Point}
 use Rattle.remy.specs.declared.cube.Cube.{Cube}
-use Rattle.remy.specs.Cube.{usualEnds, rootOf, containsOf, childCube}
+use Rattle.remy.specs.Cube.{rootOf, containsOf, childCube}
 use Rattle.rule_tree.specs.declared.Node.{Node}
 use Rattle.rule_tree.specs.declared.Looked.{Looked}
 use Rattle.rule_tree.specs.declared.Looked.the-variants as looked
@@ -20,7 +19,6 @@ use Rattle.rule_tree.specs.Nodes.{childrenOf}
 use Rattle.rule_tree.specs.Cubes.{splitNodes, cubeAt, cubeOf}
 use Rattle.rule_tree.specs.Walk.{leafOf}
 use Rattle.rule_tree.specs.Calls.{foundIn}
-use Rattle.rule_tree.proofs.Plain.{PointFits}
 use Rattle.rule_tree.proofs.Owners.{same-or-not}
 use Rattle.rule_tree.proofs.CubeSteps.{root-cube, step-cube}
 use Rattle.rule_tree_laws.proofs.Partition.{InOneLeaf, InNone, grown-one-leaf, grown-none}
@@ -52,10 +50,6 @@ cubes-same n ps qs root h low (suc d) i l =
     split-made : (i : ℕ) → (i ≡ 0 → ⊥) → i < 1 + 8 * n → (i - 1) / 8 < n
     split-made zero m l = absurd (m refl)
     split-made (suc i) m l = omega arith
-
-pub usual-fits : PointFits usualEnds
-unfolding fits
-usual-fits = record { acks = tt; sends = tt; ratios = tt }
 
 -- ---- the first leaf whose cube holds p, among n nodes from a on
 abbrev inCube : Tree → Point → ℕ → Bool
@@ -97,29 +91,26 @@ unfoldable pub lookedAt : Tree → Choice → Looked
 lookedAt t nobody = looked.Nothing
 lookedAt t (leaf i) = looked.Found (ruleAt t i .action)
 
-abbrev rootBox : Cube
-rootBox = rootOf usualEnds
-
 module _ (t : Tree) (v : ValidTree t) where
   pub cube-embeds : (i : ℕ) → i < nodes t → cubeIn t i ≡ cubeOf (embedTree t) i
   cube-embeds i l =
       let qs = splitNodes (childrenOf (embedTree t .nodes)) in
-      cubes-same (length (t .splits)) (t .splits) qs rootBox
+      cubes-same (length (t .splits)) (t .splits) qs (rootOf (t .ends))
       (λ k b. ap (λ (ps : List ℕ). getD ps k 0) (sym (splits-embed t v)) ∙ getD-take (length (t .splits)) qs k 0 b)
       (v .grew) i i l
 
   module _ (p : Point) where
-    one-leaf : containsOf rootBox p ≡ true → InOneLeaf (embedTree t) p
-    one-leaf e = grown-one-leaf (embedTree t) (grown-embeds t v) (embed-length t) usual-fits p e
+    one-leaf : containsOf (rootOf (t .ends)) p ≡ true → InOneLeaf (embedTree t) p
+    one-leaf e = grown-one-leaf (embedTree t) (grown-embeds t v) (embed-length t) (v .floats) p e
 
-    none : containsOf rootBox p ≡ false → InNone (embedTree t) p
-    none e = grown-none (embedTree t) (grown-embeds t v) (embed-length t) usual-fits p e
+    none : containsOf (rootOf (t .ends)) p ≡ false → InNone (embedTree t) p
+    none e = grown-none (embedTree t) (grown-embeds t v) (embed-length t) (v .floats) p e
 
     cube-holds : (i : ℕ) → i < nodes t → containsOf (cubeOf (embedTree t) i) p ≡ inCube t p i
     cube-holds i l = ap (λ (c : Cube). containsOf c p) (sym (cube-embeds i l))
 
     -- the leaf that lookup reaches
-    pub reached : containsOf rootBox p ≡ true → OneLeaf t p (leafOf (embedTree t) p)
+    pub reached : containsOf (rootOf (t .ends)) p ≡ true → OneLeaf t p (leafOf (embedTree t) p)
     reached e =
         let o = one-leaf e in
         let i = leafOf (embedTree t) p in
@@ -133,7 +124,7 @@ module _ (t : Tree) (v : ValidTree t) where
         }
 
     -- "each point of the box": its leaf is found
-    pub leaf-inside : containsOf rootBox p ≡ true → leafAt t p ≡ leaf (leafOf (embedTree t) p)
+    pub leaf-inside : containsOf (rootOf (t .ends)) p ≡ true → leafAt t p ≡ leaf (leafOf (embedTree t) p)
     leaf-inside e = go (leafAt t p) (leaf-says t p)
       where
         go : (c : Choice) → Says t p 0 (nodes t) c → c ≡ leaf (leafOf (embedTree t) p)
@@ -143,7 +134,7 @@ module _ (t : Tree) (v : ValidTree t) where
             absurd (no (inCube t p i) (r .inside) (h i (omega arith) (omega (arith, leaf-below t i (r .leaf))) (r .leaf)))
         go (leaf j) h = ap leaf (reached e .only j (h .0) (h .1))
 
-    pub leaf-outside : containsOf rootBox p ≡ false → leafAt t p ≡ nobody
+    pub leaf-outside : containsOf (rootOf (t .ends)) p ≡ false → leafAt t p ≡ nobody
     leaf-outside e = go (leafAt t p) (leaf-says t p)
       where
         go : (c : Choice) → Says t p 0 (nodes t) c → c ≡ nobody
@@ -153,10 +144,10 @@ module _ (t : Tree) (v : ValidTree t) where
             absurd (no (inCube t p j) (h .1) (sym (cube-holds j l) ∙ none e .none j l))
 
     -- nobody exactly where the point is outside the root box
-    pub nobody-outside : leafAt t p ≡ nobody → containsOf rootBox p ≡ false
-    nobody-outside h = go (containsOf rootBox p) refl
+    pub nobody-outside : leafAt t p ≡ nobody → containsOf (rootOf (t .ends)) p ≡ false
+    nobody-outside h = go (containsOf (rootOf (t .ends)) p) refl
       where
-        go : (b : Bool) → containsOf rootBox p ≡ b → b ≡ false
+        go : (b : Bool) → containsOf (rootOf (t .ends)) p ≡ b → b ≡ false
         go true e =
             let q : leaf (leafOf (embedTree t) p) ≡ nobody = sym (leaf-inside e) ∙ h in
             absurd (let z : _≡_ {A = ℕ} 0 1 = cc in omega arith)
@@ -164,9 +155,9 @@ module _ (t : Tree) (v : ValidTree t) where
 
     -- a leaf exactly where it is the one whose cube holds the point
     pub leaf-holds : (i : ℕ) → leafAt t p ≡ leaf i → OneLeaf t p i
-    leaf-holds i h = go (containsOf rootBox p) refl
+    leaf-holds i h = go (containsOf (rootOf (t .ends)) p) refl
       where
-        go : (b : Bool) → containsOf rootBox p ≡ b → OneLeaf t p i
+        go : (b : Bool) → containsOf (rootOf (t .ends)) p ≡ b → OneLeaf t p i
         go true e =
             let q : leaf (leafOf (embedTree t) p) ≡ leaf i = sym (leaf-inside e) ∙ h in
             let z : leafOf (embedTree t) p ≡ i = cc in
@@ -178,9 +169,9 @@ module _ (t : Tree) (v : ValidTree t) where
     -- lookup finds that leaf's action, or nothing
     pub found-embeds : foundIn (embedTree t) p ≡ lookedAt t (leafAt t p)
     unfolding lookedAt
-    found-embeds = go (containsOf rootBox p) refl
+    found-embeds = go (containsOf (rootOf (t .ends)) p) refl
       where
-        go : (b : Bool) → containsOf rootBox p ≡ b → foundIn (embedTree t) p ≡ lookedAt t (leafAt t p)
+        go : (b : Bool) → containsOf (rootOf (t .ends)) p ≡ b → foundIn (embedTree t) p ≡ lookedAt t (leafAt t p)
         go true e =
             one-leaf e .found
             ∙ ap (λ (x : Node). looked.Found (x .action)) (leaf-node t v (leafOf (embedTree t) p) (reached e .leaf))

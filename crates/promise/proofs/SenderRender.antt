@@ -24,40 +24,10 @@ use Rattle.sender.specs.declared.Sender.{Sender}
 use Rattle.sender.specs.Memory.{averaged, averageNext, rttNext, remembered, valueOf, ratioNow}
 use Rattle.sender.specs.Memory as memory
 use Rattle.sender.specs.Acks.{windowIn, paced, repeatNext}
-use Rattle.promise.specs.PlainSender.{TakenAck, PlainSender, blend, averageAfter, amount, shorter, tripsAfter, ratioOf, roundTrip, pendingNext, pendingAfter, windowAfter, waitAfter, pendingNow, windowHeld, waitHeld, shown, ackPoint}
+use Rattle.promise.specs.PlainSender.{TakenAck, PlainSender, blend, lastAfter, averageAfter, amount, shorter, tripsAfter, ratioOf, roundTrip, sents, receiveds, rounds, pendingNext, pendingAfter, windowAfter, waitAfter, pendingNow, stateOf, shown, ackPoint}
 use Rattle.promise.specs.SenderRuns.{plainStart}
 
--- ---- the history's moments and round trips
-abbrev pub sents : PlainSender → List Float
-sents s = map (λ (x : TakenAck). x .sent) (s .history)
-
-abbrev pub receiveds : PlainSender → List Float
-receiveds s = map (λ (x : TakenAck). x .received) (s .history)
-
-abbrev pub rounds : PlainSender → List Float
-rounds s = map roundTrip (s .history)
-
--- the last of the moments after one that is held
-unfoldable pub lastAfter : Moment → List Float → Moment
-lastAfter last [] = last
-lastAfter last (m ∷ ms) = lastAfter (held.At (moment m)) ms
-
-abbrev pub render : PlainSender → Sender
-render s =
-    record {
-      «last_ack» = lastAfter (s .start .«last_ack») (receiveds s);
-      «last_ack_send» = lastAfter (s .start .«last_ack_send») (sents s);
-      «ack_ewma» = averageAfter (s .start .«ack_ewma») (s .start .«last_ack») (receiveds s);
-      «send_ewma» = averageAfter (s .start .«send_ewma») (s .start .«last_ack_send») (sents s);
-      rtt = tripsAfter (s .start .rtt) (rounds s);
-      «next_change» = pendingNow s;
-      «repeat_actions» = s .start .«repeat_actions»;
-      «last_send» = s .standing;
-      window = windowHeld s;
-      «intersend_delay» = waitHeld s;
-    }
-
-pub start-renders : (s : Sender) → render (plainStart s) ≡ s
+pub start-renders : (s : Sender) → stateOf (plainStart s) ≡ s
 unfolding lastAfter averageAfter tripsAfter pendingAfter windowAfter waitAfter
 start-renders s = refl
 
@@ -155,7 +125,7 @@ sender-parts a b c d e f g h i j k l m n o p q r e1 e2 e3 e4 e5 e6 e7 e8 = rw (e
 
 module _ (s : PlainSender) (sent received : Float) where
   abbrev pub known : Sender
-  known = remembered (render s) (moment sent) (moment received)
+  known = remembered (stateOf s) (moment sent) (moment received)
 
   ack-average : averageAfter (s .start .«ack_ewma») (s .start .«last_ack») (receiveds s ++ (received ∷ [])) ≡ known .«ack_ewma»
   ack-average = average-more (s .start .«ack_ewma») (s .start .«last_ack») (receiveds s) received
@@ -176,7 +146,7 @@ module _ (s : PlainSender) (sent received : Float) where
   pub ack-renders :
       (a : Action) (next : Pending)
       → let x : TakenAck = record { sent = sent; received = received; action = a; next = next } in
-      render (withAck s x) ≡ paced known a (pendingNext (pendingNow s) x)
+      stateOf (withAck s x) ≡ paced known a (pendingNext (pendingNow s) x)
   ack-renders a next =
       let x : TakenAck = record { sent = sent; received = received; action = a; next = next } in
       sender-parts _ _ _ _ _ _ _ _ _ _ _ _ _ _ _ _ _ _

@@ -11,11 +11,11 @@ use Rattle.sender.specs.declared.Sender.{Sender}
 use Rattle.sender.specs.declared.Reply.the-variants.{Taken, Refused}
 use Rattle.sender.specs.SenderCall.{SenderCall, ack, send, tick, over}
 use Rattle.promise.specs.PlainTree.{Tree}
-use Rattle.promise.specs.PlainSender.{PlainSender, Reaction, refuse, react}
+use Rattle.promise.specs.PlainSender.{PlainSender, stateOf, Reaction, refuse, react}
 use Rattle.rule_tree.specs.declared.RuleTree.{RuleTree}
-use Rattle.promise.specs.SenderRuns.{SenderEvent, SenderStep, afterReply, taken, senderStep, senderEvents, senderEnd, plainStart, plainSenderEvents, plainSenderEnd}
+use Rattle.promise.specs.SenderRuns.{SenderEvent, event, SenderStep, afterReply, taken, senderStep, senderEvents, senderEnd, plainStart, plainSenderEvents, plainSenderEnd}
 use Rattle.promise.proofs.Embed.{embedTree, ValidTree}
-use Rattle.promise.proofs.SenderRender.{render, start-renders}
+use Rattle.promise.proofs.SenderRender.{start-renders}
 use Rattle.promise.proofs.SenderSteps.{heldOf, replyOf, ack-step, send-step, tick-step, refused-stays}
 
 -- the calls over the trees that plain trees stand for
@@ -43,21 +43,21 @@ over-all P Q f (c ∷ cs) h = (ack-over P Q f c (h .0), over-all P Q f cs (h .1)
 
 -- ---- one call
 abbrev pub plainStep : Reaction → SenderStep
-plainStep o = record { sender = render (o .sender); event = record { refused = o .refused; window = o .window } }
+plainStep o = record { sender = stateOf (o .sender); event = event (o .refused) (o .window) }
 
-refused-step : (s : PlainSender) (o : Reaction) (n : ℕ) → o ≡ refuse n s → afterReply (render s) (Refused n) ≡ plainStep o
+refused-step : (s : PlainSender) (o : Reaction) (n : ℕ) → o ≡ refuse n s → afterReply (stateOf s) (Refused n) ≡ plainStep o
 unfolding afterReply
 refused-step s o n e = ap plainStep (sym e)
 
-taken-step : (s : PlainSender) (o : Reaction) → o .refused ≡ 0 → afterReply (render s) (Taken (heldOf o)) ≡ plainStep o
+taken-step : (s : PlainSender) (o : Reaction) → o .refused ≡ 0 → afterReply (stateOf s) (Taken (heldOf o)) ≡ plainStep o
 unfolding afterReply
-taken-step s o e = ap (λ (n : ℕ). record { sender = render (o .sender); event = record { refused = n; window = o .window } }) (sym e)
+taken-step s o e = ap (λ (n : ℕ). record { sender = stateOf (o .sender); event = event n (o .window) }) (sym e)
 
-reply-step : (s : PlainSender) (o : Reaction) → (o .refused ≢ 0 → o ≡ refuse (o .refused) s) → afterReply (render s) (replyOf o) ≡ plainStep o
+reply-step : (s : PlainSender) (o : Reaction) → (o .refused ≢ 0 → o ≡ refuse (o .refused) s) → afterReply (stateOf s) (replyOf o) ≡ plainStep o
 unfolding replyOf
 reply-step s o h = go (eqb (o .refused) 0) refl
   where
-    go : (b : Bool) → eqb (o .refused) 0 ≡ b → afterReply (render s) (cond b (Taken (heldOf o)) (Refused (o .refused))) ≡ plainStep o
+    go : (b : Bool) → eqb (o .refused) 0 ≡ b → afterReply (stateOf s) (cond b (Taken (heldOf o)) (Refused (o .refused))) ≡ plainStep o
     go true e = taken-step s o (eqb-true (o .refused) 0 e)
     go false e = refused-step s o (o .refused) (h (eqb-false (o .refused) 0 e))
 
@@ -65,23 +65,23 @@ tick-taken : (s : PlainSender) → taken (heldOf (react s tick)) ≡ plainStep (
 unfolding react
 tick-taken s = refl
 
-pub call-step : (s : PlainSender) (c : SenderCall Tree) → AckOver ValidTree c → senderStep (render s) (over embedTree c) ≡ plainStep (react s c)
+pub call-step : (s : PlainSender) (c : SenderCall Tree) → AckOver ValidTree c → senderStep (stateOf s) (over embedTree c) ≡ plainStep (react s c)
 unfolding senderStep over
 call-step s (ack t sent received draw) v =
     let c = ack t sent received draw in
-    ap (afterReply (render s)) (ack-step t v s sent received draw) ∙ reply-step s (react s c) (refused-stays s c)
-call-step s (send at) v = ap (afterReply (render s)) (send-step s at) ∙ reply-step s (react s (send at)) (refused-stays s (send at))
+    ap (afterReply (stateOf s)) (ack-step t v s sent received draw) ∙ reply-step s (react s c) (refused-stays s c)
+call-step s (send at) v = ap (afterReply (stateOf s)) (send-step s at) ∙ reply-step s (react s (send at)) (refused-stays s (send at))
 call-step s tick v = ap taken (tick-step s) ∙ tick-taken s
 
 -- ---- every list
-pub events-from : (cs : List (SenderCall Tree)) → Over ValidTree cs → (s : PlainSender) → senderEvents (render s) (embedCalls cs) ≡ plainSenderEvents s cs
+pub events-from : (cs : List (SenderCall Tree)) → Over ValidTree cs → (s : PlainSender) → senderEvents (stateOf s) (embedCalls cs) ≡ plainSenderEvents s cs
 unfolding senderEvents plainSenderEvents
 events-from [] v s = refl
 events-from (c ∷ cs) v s =
     ap (λ (o : SenderStep). o .event ∷ senderEvents (o .sender) (embedCalls cs)) (call-step s c (v .0))
-    ∙ ap (λ (es : List SenderEvent). record { refused = react s c .refused; window = react s c .window } ∷ es) (events-from cs (v .1) (react s c .sender))
+    ∙ ap (λ (es : List SenderEvent). event (react s c .refused) (react s c .window) ∷ es) (events-from cs (v .1) (react s c .sender))
 
-pub end-from : (cs : List (SenderCall Tree)) → Over ValidTree cs → (s : PlainSender) → senderEnd (render s) (embedCalls cs) ≡ render (plainSenderEnd s cs)
+pub end-from : (cs : List (SenderCall Tree)) → Over ValidTree cs → (s : PlainSender) → senderEnd (stateOf s) (embedCalls cs) ≡ stateOf (plainSenderEnd s cs)
 unfolding senderEnd plainSenderEnd
 end-from [] v s = refl
 end-from (c ∷ cs) v s =
@@ -90,7 +90,14 @@ end-from (c ∷ cs) v s =
 -- from any sender, "whose whole state is then the start"
 pub sender-agrees :
     (s : Sender) (cs : List (SenderCall Tree)) → Over ValidTree cs
-    → (senderEvents s (embedCalls cs) ≡ plainSenderEvents (plainStart s) cs) × (senderEnd s (embedCalls cs) ≡ render (plainSenderEnd (plainStart s) cs))
+    → (senderEvents s (embedCalls cs) ≡ plainSenderEvents (plainStart s) cs) × (senderEnd s (embedCalls cs) ≡ stateOf (plainSenderEnd (plainStart s) cs))
 sender-agrees s cs v =
-    subst (λ (x : Sender). (senderEvents x (embedCalls cs) ≡ plainSenderEvents (plainStart s) cs) × (senderEnd x (embedCalls cs) ≡ render (plainSenderEnd (plainStart s) cs)))
+    subst (λ (x : Sender). (senderEvents x (embedCalls cs) ≡ plainSenderEvents (plainStart s) cs) × (senderEnd x (embedCalls cs) ≡ stateOf (plainSenderEnd (plainStart s) cs)))
     (start-renders s) (events-from cs v (plainStart s), end-from cs v (plainStart s))
+
+-- and one more call then
+pub next-step :
+    (s : Sender) (cs : List (SenderCall Tree)) → Over ValidTree cs → (c : SenderCall Tree) → AckOver ValidTree c
+    → senderStep (senderEnd s (embedCalls cs)) (over embedTree c) ≡ plainStep (react (plainSenderEnd (plainStart s) cs) c)
+next-step s cs v c w =
+    ap (λ (x : Sender). senderStep x (over embedTree c)) (sender-agrees s cs v .1) ∙ call-step (plainSenderEnd (plainStart s) cs) c w

@@ -1,6 +1,6 @@
 -- Each call on a sender is the plain sender's, whatever sender it holds, for acks over valid trees. Assumes nothing.
 use mathlib.Core.Path.{_≡_, refl, sym, ap, _∙_}
-use mathlib.Core.Bool.{Bool, true, false, _&&_, cond}
+use mathlib.Core.Bool.{Bool, true, false, not, _&&_, cond}
 use mathlib.Core.Logic.{_≢_}
 use Prim.Native.Nat.{ℕ}
 use lib.Dec.{eqb, leb}
@@ -30,24 +30,24 @@ use Rattle.sender.specs.Acks.{settled, repeatNext, drawn, ackDrawn, ackWith, ac
 use Rattle.sender.specs.Sender.{ackOf, heldAs, sendAdmitted, sendOf, tickOf}
 use Rattle.sender.specs.SenderCall.{SenderCall, ack, send, tick}
 use Rattle.promise.specs.PlainTree.{Tree, Choice, nobody, leaf, ruleAt}
-use Rattle.promise.specs.PlainSender.{TakenAck, PlainSender, pendingNext, pendingNow, windowHeld, leafAt, Reaction, refuse, answered, admitted, readAs, take, drawFor, lookUp, ackPoint, serve, standWith, react}
+use Rattle.promise.specs.PlainSender.{TakenAck, PlainSender, pendingNext, pendingNow, windowHeld, stateOf, leafAt, Reaction, refuse, answered, admitted, readAs, take, drawFails, drawLeaves, drawFor, lookUp, ackPoint, serve, standWith, react}
 use Rattle.promise.proofs.Embed.{embedTree, ValidTree}
 use Rattle.promise.proofs.TreeGrown.{grown-embeds}
-use Rattle.promise.proofs.SenderRender.{render, known, withAck, shown-same, repeat-same, point-renders, ack-renders}
+use Rattle.promise.proofs.SenderRender.{known, withAck, shown-same, repeat-same, point-renders, ack-renders}
 use Rattle.promise.proofs.SenderLeaf.{lookedAt, found-embeds}
 
 -- what the sender's calls answer for a reaction: its refusal's number, or the sender with the window
 abbrev pub heldOf : Reaction → Held
-heldOf o = record { sender = render (o .sender); window = o .window }
+heldOf o = record { sender = stateOf (o .sender); window = o .window }
 
 unfoldable pub replyOf : Reaction → Reply
 replyOf o = cond (eqb (o .refused) 0) (Taken (heldOf o)) (Refused (o .refused))
 
 -- a reaction that answers, of the sender that stands for it
-pub answered-held : (s : PlainSender) → heldAs (render s) ≡ heldOf (answered s)
-answered-held s = ap (λ (w : ℕ). record { sender = render s; window = w }) (sym (shown-same (s .standing) (windowHeld s)))
+pub answered-held : (s : PlainSender) → heldAs (stateOf s) ≡ heldOf (answered s)
+answered-held s = ap (λ (w : ℕ). record { sender = stateOf s; window = w }) (sym (shown-same (s .standing) (windowHeld s)))
 
-answered-reply : (s : PlainSender) → Taken (heldAs (render s)) ≡ replyOf (answered s)
+answered-reply : (s : PlainSender) → Taken (heldAs (stateOf s)) ≡ replyOf (answered s)
 unfolding replyOf
 answered-reply s = ap Taken (answered-held s)
 
@@ -91,7 +91,7 @@ module _ (s : PlainSender) (sent received : Float) where
   drawn-reply :
       pendingNow s ≡ Idle → (a : Action) (m : RepeatMode) (draw : Draw)
       → ackDrawn (known s sent received) a (drawn m draw a) ≡ replyOf (drawFor s sent received a m draw)
-  unfolding ackDrawn drawn drawFor
+  unfolding ackDrawn drawn drawFails drawLeaves
   drawn-reply e a Off draw = idle-reply e a Idle
   drawn-reply e a (Always n) draw = idle-reply e a (Repeat n a)
   drawn-reply e a (Between lo hi) Absent = sym (reply-5 s)
@@ -99,7 +99,7 @@ module _ (s : PlainSender) (sent received : Float) where
     where
       go :
           (b : Bool)
-          → ackDrawn (known s sent received) a (cond b (Next (Repeat n a)) Missing) ≡ replyOf (cond b (take s sent received a (Repeat n a)) (refuse 5 s))
+          → ackDrawn (known s sent received) a (cond b (Next (Repeat n a)) Missing) ≡ replyOf (cond (not b) (refuse 5 s) (take s sent received a (Repeat n a)))
       go true = idle-reply e a (Repeat n a)
       go false = sym (reply-5 s)
 
@@ -134,30 +134,30 @@ grown-ack t s sent received draw g = rw g
 
 pub ack-step :
     (t : Tree) → ValidTree t → (s : PlainSender) (sent received : Float) (draw : Draw)
-    → ackOf (embedTree t) (render s) sent received draw ≡ replyOf (react s (ack t sent received draw))
+    → ackOf (embedTree t) (stateOf s) sent received draw ≡ replyOf (react s (ack t sent received draw))
 unfolding react admitOf
 ack-step t v s sent received draw =
     let x = moment (readAs sent) in
     let y = moment (readAs received) in
     let both = admitted sent && admitted received in
-    grown-ack (embedTree t) (render s) sent received draw (grown-embeds t v)
-    ∙ admitted-reply (embedTree t) (render s) (admitted sent) (admitted received) x y draw
+    grown-ack (embedTree t) (stateOf s) sent received draw (grown-embeds t v)
+    ∙ admitted-reply (embedTree t) (stateOf s) (admitted sent) (admitted received) x y draw
     ∙ ap (λ (r : Reply). cond both r (Refused 1)) (serve-reply s (readAs sent) (readAs received) t v draw (pendingNow s) refl)
     ∙ ap (λ (r : Reply). cond both (replyOf (serve s t (pendingNow s) (readAs sent) (readAs received) draw)) r) (sym (reply-1 s))
     ∙ sym (reply-cond both (serve s t (pendingNow s) (readAs sent) (readAs received) draw) (refuse 1 s))
 
-pub send-step : (s : PlainSender) (at : Float) → sendOf (render s) at ≡ replyOf (react s (send at))
+pub send-step : (s : PlainSender) (at : Float) → sendOf (stateOf s) at ≡ replyOf (react s (send at))
 unfolding react admitOf sendAdmitted
 send-step s at = go (admitted at)
   where
     after : PlainSender
     after = standWith s (held.At (moment (readAs at)))
 
-    go : (b : Bool) → sendAdmitted (render s) (cond b (read.At (moment (readAs at))) (read.Refused 1)) ≡ replyOf (cond b (answered after) (refuse 1 s))
+    go : (b : Bool) → sendAdmitted (stateOf s) (cond b (read.At (moment (readAs at))) (read.Refused 1)) ≡ replyOf (cond b (answered after) (refuse 1 s))
     go true = answered-reply after
     go false = sym (reply-1 s)
 
-pub tick-step : (s : PlainSender) → tickOf (render s) ≡ heldOf (react s tick)
+pub tick-step : (s : PlainSender) → tickOf (stateOf s) ≡ heldOf (react s tick)
 unfolding react
 tick-step s = answered-held (standWith s held.Never)
 
@@ -173,12 +173,8 @@ stays-answered : (s u : PlainSender) → Stays s (answered u)
 stays-answered s u n = absurd (n refl)
 
 stays-drawn : (s : PlainSender) (sent received : Float) (a : Action) (m : RepeatMode) (draw : Draw) → Stays s (drawFor s sent received a m draw)
-unfolding drawFor
-stays-drawn s sent received a Off draw = stays-answered s _
-stays-drawn s sent received a (Always n) draw = stays-answered s _
-stays-drawn s sent received a (Between lo hi) Absent = λ n. refl
-stays-drawn s sent received a (Between lo hi) (Given n) =
-    stays-cond s (leb lo n && leb n hi) (take s sent received a (Repeat n a)) (refuse 5 s) (stays-answered s _) (λ z. refl)
+stays-drawn s sent received a m draw =
+    stays-cond s (drawFails m draw) (refuse 5 s) (take s sent received a (drawLeaves m draw a)) (λ n. refl) (stays-answered s _)
 
 stays-looked : (s : PlainSender) (t : Tree) (c : Choice) (sent received : Float) (draw : Draw) → Stays s (lookUp s t c sent received draw)
 unfolding lookUp

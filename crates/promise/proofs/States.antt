@@ -9,8 +9,8 @@ use Rattle.trainer.specs.declared.settings.Settings.{Settings}
 use Rattle.trainer.specs.declared.Trainer.{Trainer}
 use Rattle.trainer.specs.declared.Answered.{Answered}
 use Rattle.trainer.specs.Settings.{settingsHold}
-use Rattle.trainer.specs.Candidates.{candidatesOf}
 use Rattle.trainer.specs.State.{stand, atLeaf, trying}
+use Rattle.promise.specs.PlainCandidates.{improvements}
 use Rattle.promise.specs.PlainTree.{Tree, isLeaf, ruleAt}
 use Rattle.promise.specs.PlainTrainer.{State, Phase, Kept, nothing, just, phase1, phase2, phase3, phase4, phase5, phase6, phase7, Outcome, keptNumber, keptScore}
 use Rattle.promise.proofs.Embed.{embedTree, ValidTree}
@@ -60,7 +60,7 @@ KeptHolds best k (just j y) = (j < k) × (lt best y ≡ true)
 
 -- "in 5 k below the list's length"
 pub record Trying (s : Settings) (t : Tree) (leaf : ℕ) (best : Float) (k : ℕ) (kept : Kept) : Type 0 where
-  pub below : k < length (candidatesOf s (ruleAt t leaf .action))
+  pub below : k < length (improvements s (ruleAt t leaf .action))
   pub held : KeptHolds best k kept
 
 abbrev pub ValidPhase : Settings → Tree → ℕ → ℕ → Phase → Type 0

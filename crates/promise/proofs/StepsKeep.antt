@@ -13,7 +13,7 @@ use Rattle.remy.specs.declared.action.Action.{Action}
 use Rattle.rule_tree.proofs.Counting.{and-left, and-right}
 use Rattle.trainer.specs.declared.settings.Settings.{Settings}
 use Rattle.trainer.specs.Settings.{settingsHold}
-use Rattle.trainer.specs.Candidates.{candidatesOf, noCandidate}
+use Rattle.promise.specs.PlainCandidates.{improvements, noCandidate}
 use Rattle.promise.specs.PlainTree.{Tree, Rule, Choice, nobody, leaf, isLeaf, ruleAt, leaves, unmarkedLeaves, mostUsed, used, sum, countsTaken, split, setAction, mark, clearMarks}
 use Rattle.promise.specs.PlainTrainer.{State, Phase, Kept, nothing, just, phase1, phase2, phase3, phase4, phase5, phase6, phase7, Outcome, at, beginRound, become, refuse, splitChosen, answer1, answer2, answer3, tryAll, keep, afterLast, answer5, counted, scored, recordBytes, Call, counts, score, reload, step}
 use Rattle.promise.proofs.Embed.{ValidTree, leaf-below}
@@ -103,15 +103,15 @@ counted-valid st v xs = counted-in (st .settings) (st .tree) (st .stage) (st .ro
 module _ (s : Settings) (g : settingsHold s ≡ true) (i r : ℕ) (h : Tuning s i r) (u : Tree) (p : Phase) where
   try-keeps : (t : Tree) → ValidTree t → (l : ℕ) → AtLeaf t l → (best : Float) → ValidState (tryAll (at s u i r p) t l best)
   unfolding tryAll
-  try-keeps t v l a best = go (eqb (length (candidatesOf s (ruleAt t l .action))) 0) refl
+  try-keeps t v l a best = go (eqb (length (improvements s (ruleAt t l .action))) 0) refl
     where
       go :
-          (z : Bool) → eqb (length (candidatesOf s (ruleAt t l .action))) 0 ≡ z
+          (z : Bool) → eqb (length (improvements s (ruleAt t l .action))) 0 ≡ z
           → ValidState (cond z (at s (mark t l) i r phase3) (at s t i r (phase5 l best 0 nothing)))
       go true e = record { settings = g; tree = mark-valid t v l (a .leaf); phase = h }
       go false e =
-          let n = eqb-false (length (candidatesOf s (ruleAt t l .action))) 0 e in
-          let c : 0 < length (candidatesOf s (ruleAt t l .action)) = omega arith in
+          let n = eqb-false (length (improvements s (ruleAt t l .action))) 0 e in
+          let c : 0 < length (improvements s (ruleAt t l .action)) = omega arith in
           record { settings = g; tree = v; phase = (h, (a, record { below = c; held = omega arith })) }
 
 keep-holds : (best : Float) (k : ℕ) (x : Float) (kept : Kept) → KeptHolds best k kept → KeptHolds best (k + 1) (keep best k x kept)
@@ -129,7 +129,7 @@ keep-holds best k x (just j y) h = go (lt best x && le y x) refl
 
 module _
     (s : Settings) (g : settingsHold s ≡ true) (t : Tree) (v : ValidTree t) (i r : ℕ) (h : Tuning s i r) (l : ℕ) (a : AtLeaf t l)
-    (best : Float) (k : ℕ) (b : k < length (candidatesOf s (ruleAt t l .action))) (p : Phase) where
+    (best : Float) (k : ℕ) (b : k < length (improvements s (ruleAt t l .action))) (p : Phase) where
   rule-set : (c : Action) → ruleAt (setAction t l c) l ≡ record { action = c; marked = ruleAt t l .marked }
   rule-set c = getD-set-same (t .rules) l _ noRule (omega (arith, leaf-below t l (a .leaf), v .sized))
 
@@ -137,23 +137,23 @@ module _
   unfolding afterLast
   last-keeps nothing q = record { settings = g; tree = mark-valid t v l (a .leaf); phase = h }
   last-keeps (just j y) q =
-      let c = getD (candidatesOf s (ruleAt t l .action)) j noCandidate in
+      let c = getD (improvements s (ruleAt t l .action)) j noCandidate in
       try-keeps s g i r h t p (setAction t l c)
-      (action-valid t v l (a .leaf) c (candidate-valid s g (ruleAt t l .action) j (omega (arith, q .0))))
+      (action-valid t v l (a .leaf) c (candidate-valid s (ruleAt t l .action) j (omega (arith, q .0)) g))
       l (record { leaf = a .leaf; unmarked = ap (λ (x : Rule). x .marked) (rule-set c) ∙ a .unmarked }) y
 
   tried-keeps : (m : Kept) → KeptHolds best (k + 1) m → ValidState (answer5 (at s t i r p) l best k m)
   unfolding answer5
-  tried-keeps m q = go (ltb (k + 1) (length (candidatesOf s (ruleAt t l .action)))) refl
+  tried-keeps m q = go (ltb (k + 1) (length (improvements s (ruleAt t l .action)))) refl
     where
       go :
-          (z : Bool) → ltb (k + 1) (length (candidatesOf s (ruleAt t l .action))) ≡ z
+          (z : Bool) → ltb (k + 1) (length (improvements s (ruleAt t l .action))) ≡ z
           → ValidState (cond z (at s t i r (phase5 l best (k + 1) m)) (afterLast (at s t i r p) l m))
       go true e =
           record {
             settings = g;
             tree = v;
-            phase = (h, (a, record { below = ltb-true (k + 1) (length (candidatesOf s (ruleAt t l .action))) e; held = q }));
+            phase = (h, (a, record { below = ltb-true (k + 1) (length (improvements s (ruleAt t l .action))) e; held = q }));
           }
       go false e = last-keeps m q
 

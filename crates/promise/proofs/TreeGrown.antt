@@ -1,7 +1,7 @@
 -- A valid plain tree is a grown tree, and its splits can be read from it. Assumes nothing.
 use mathlib.Core.Path.{_≡_, refl, sym, ap, subst, _∙_}
 use mathlib.Core.Bool.{Bool, true, false}
-use mathlib.Core.Logic.{⊎-elim, _≢_}
+use mathlib.Core.Logic.{⊎-elim}
 use mathlib.Core.List.{List, [], _∷_}
 use Prim.Native.Nat.{ℕ, zero, suc, _+_, _*_, _<_}
 use native.Mathlib.Nat.{eq-or-lt-of-le}
@@ -18,26 +18,19 @@ use Rattle.rule_tree.specs.Grown.{linkHolds, plainOf, slotHolds, grownOf}
 use Rattle.rule_tree.specs.Cubes.{ownerBelow, splitNodes}
 use Rattle.rule_tree.proofs.Lists.{length-tabulate, getD-tabulate}
 use Rattle.rule_tree.proofs.GrownTree.{Grown, child-at, facts-grown, link-none, link-from, slot-used, slot-unused}
-use Rattle.rule_tree.proofs.Changing.{blank-plain, usual-ends}
+use Rattle.rule_tree.proofs.Changing.{blank-plain, occurrences-none}
 use Rattle.promise.specs.PlainTree.{Tree, nodes, member}
 use Rattle.promise.proofs.Links.{link, link-owner, link-leaf, link-at}
 use Rattle.promise.proofs.Embed.{nodeOf, embedTree, ValidTree, parent-below, node-used, node-leaf, node-blank, embed-at, embed-length}
 
 -- ---- a number that stands once in a list
-occurs-not : (x : ℕ) (cs : List ℕ) → ((j : ℕ) → j < length cs → getD cs j 0 ≢ x) → occurrences x cs ≡ 0
-unfolding occurrences
-occurs-not x [] h = refl
-occurs-not x (c ∷ cs) h =
-    let a = occurs-not x cs (λ j l. h (suc j) (omega arith)) in
-    rw (ne-eqb c x (h 0 (omega arith))) (omega arith)
-
 occurs-once :
     (x : ℕ) (cs : List ℕ) (i : ℕ) → i < length cs → getD cs i 0 ≡ x → ((j : ℕ) → j < length cs → getD cs j 0 ≡ x → j ≡ i)
     → occurrences x cs ≡ 1
 unfolding occurrences
 occurs-once x [] i l e h = absurd (omega arith)
 occurs-once x (c ∷ cs) zero l e h =
-    let a = occurs-not x cs (λ j b p. absurd (let z = h (suc j) (omega arith) p in omega arith)) in
+    let a = occurrences-none x cs (λ j b p. absurd (let z = h (suc j) (omega arith) p in omega arith)) in
     rw (eq-eqb c x e) (omega arith)
 occurs-once x (c ∷ cs) (suc i) l e h =
     let a = occurs-once x cs i (omega arith) e (λ j b p. let z = h (suc j) (omega arith) p in omega arith) in
@@ -123,7 +116,7 @@ module _ (t : Tree) (v : ValidTree t) where
             λ k l. occurs-once (8 * k + 1) cs (getD (t .splits) k 0) (omega (arith, split-below k l, cs-length)) (split-owns k l)
             (λ j b e. only-owner k l j (omega (arith, cs-length)) e);
         slots = λ i l. ap (λ (x : Node). slotHolds x (ltb i (nodes t))) (embed-at t i l) ∙ slots-hold i l;
-        box = usual-ends;
+        box = v .box;
       }
 
   pub grown-embeds : grownOf (embedTree t) ≡ true

@@ -11,14 +11,18 @@ use lib.Dec.{ltb, eqb}
 use lib.ListN.{length, getD, set, take, replicate, length-append, length-set, length-map, length-replicate, List·getD-append}
 use lib.Seq.{getD-set-same, getD-set-other, getD-append-seam, take-append-le, take-append-seam}
 use Rattle.remy.specs.declared.action.Action.{Action}
+use Rattle.remy.specs.declared.point.Point.{Point}
 use Rattle.remy.specs.Action.{validOf}
 use Rattle.rule_tree.specs.declared.Node.{Node}
 use Rattle.rule_tree.specs.Nodes.{nodeAt}
+use Rattle.rule_tree.specs.Grown.{endsHold}
 use Rattle.rule_tree.specs.Calls.{leafIn}
-use Rattle.promise.specs.PlainTree.{Tree, Rule, nodes, member, isLeaf, ruleAt, unmarked, rootLeaf, split, setAction, mark, from, clearedRule, clearMarks}
+use Rattle.rule_tree.proofs.Plain.{PointFits}
+use Rattle.promise.specs.PlainTree.{Tree, Rule, nodes, member, isLeaf, ruleAt, unmarked, rootLeaf, split, withRules, setAction, mark, from, clearedRule, clearMarks}
 use Rattle.promise.proofs.Links.{same-or, link, link-owner}
 use Rattle.promise.proofs.Embed.{leafNode, embedTree, ValidTree, leaf-below, leaf-unsplit, node-used, node-leaf, embed-at}
-use Rattle.promise.proofs.TreeSteps.{noRule, new-rule, length-from, cleared-rule}
+use Rattle.promise.proofs.TreeSteps.{noRule, new-rule}
+use Rattle.promise.proofs.TreeClears.{length-from, cleared-rule}
 
 -- ---- what the trainer's tree says of a node
 module _ (t : Tree) (v : ValidTree t) (i : ℕ) where
@@ -43,8 +47,8 @@ module _ (t : Tree) (v : ValidTree t) (i : ℕ) where
   leaf-node l = embed-at t i (omega (arith, leaf-below t i l, v .few)) ∙ node-leaf t i (leaf-below t i l) (leaf-unsplit t i l)
 
 -- ---- a new tree
-pub root-valid : (a : Action) → validOf a ≡ true → ValidTree (rootLeaf a)
-root-valid a h =
+pub root-valid : (ends : Point) (a : Action) → endsHold ends ≡ true → PointFits ends → validOf a ≡ true → ValidTree (rootLeaf ends a)
+root-valid ends a b f h =
     record {
       few = omega arith;
       sized = refl;
@@ -52,26 +56,30 @@ root-valid a h =
       once = λ k l. absurd (omega arith);
       actions =
           λ i l. let e : i ≡ 0 = omega arith in
-          subst (λ (m : ℕ). validOf (ruleAt (rootLeaf a) m .action) ≡ true) (sym e) h;
+          subst (λ (m : ℕ). validOf (ruleAt (rootLeaf ends a) m .action) ≡ true) (sym e) h;
+      box = b;
+      floats = f;
     }
 
 -- ---- the same splits
 same-splits :
-    (t u : Tree) → ValidTree t → u .splits ≡ t .splits → length (u .rules) ≡ length (t .rules)
+    (t u : Tree) → ValidTree t → u .splits ≡ t .splits → u .ends ≡ t .ends → length (u .rules) ≡ length (t .rules)
     → ((i : ℕ) → i < nodes t → validOf (ruleAt u i .action) ≡ true) → ValidTree u
-same-splits t u v e n h =
+same-splits t u v e d n h =
     record {
       few = rw e (v .few);
       sized = n ∙ v .sized ∙ ap (λ (ps : List ℕ). 1 + 8 * length ps) (sym e);
       grew = rw e (v .grew);
       once = rw e (v .once);
       actions = λ i l. h i (subst (λ (ps : List ℕ). i < 1 + 8 * length ps) e l);
+      box = rw d (v .box);
+      floats = rw d (v .floats);
     }
 
 module _ (t : Tree) (v : ValidTree t) (i : ℕ) (l : isLeaf t i ≡ true) where
-  stored-valid : (r : Rule) → validOf (r .action) ≡ true → ValidTree (record { splits = t .splits; rules = set (t .rules) i r })
+  stored-valid : (r : Rule) → validOf (r .action) ≡ true → ValidTree (withRules t (set (t .rules) i r))
   stored-valid r h =
-      same-splits t (record { splits = t .splits; rules = set (t .rules) i r }) v refl (length-set (t .rules) i r)
+      same-splits t (withRules t (set (t .rules) i r)) v refl refl (length-set (t .rules) i r)
       (λ j b. ⊎-elim
       (λ (p : j ≡ i). subst (λ (m : ℕ). validOf (getD (set (t .rules) i r) m noRule .action) ≡ true) (sym p)
       (ap (λ (x : Rule). validOf (x .action)) (getD-set-same (t .rules) i r noRule (omega (arith, leaf-below t i l, v .sized))) ∙ h))
@@ -86,7 +94,7 @@ module _ (t : Tree) (v : ValidTree t) (i : ℕ) (l : isLeaf t i ≡ true) where
 
 pub clear-valid : (t : Tree) → ValidTree t → ValidTree (clearMarks t)
 clear-valid t v =
-    same-splits t (clearMarks t) v refl (length-map (from 0 (nodes t)) (clearedRule t) ∙ length-from 0 (nodes t) ∙ sym (v .sized))
+    same-splits t (clearMarks t) v refl refl (length-map (from 0 (nodes t)) (clearedRule t) ∙ length-from 0 (nodes t) ∙ sym (v .sized))
     (λ i l. ap (λ (r : Rule). validOf (r .action)) (cleared-rule t i l) ∙ go i (isLeaf t i) ∙ v .actions i l)
   where
     go :
@@ -142,4 +150,6 @@ module _ (t : Tree) (v : ValidTree t) (i : ℕ) (l : isLeaf t i ≡ true) (r : l
         grew = split-grew;
         once = split-once;
         actions = split-action;
+        box = v .box;
+        floats = v .floats;
       }

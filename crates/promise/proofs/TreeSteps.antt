@@ -2,25 +2,25 @@
 use mathlib.Core.Path.{_≡_, refl, sym, ap, subst, _∙_}
 use mathlib.Core.Bool.{Bool, true, false, cond}
 use mathlib.Core.Logic.{⊎-elim, _⊎_, _≢_}
-use mathlib.Core.List.{List, [], _∷_, _++_, map}
-use Prim.Native.Nat.{ℕ, zero, suc, _+_, _-_, _*_, _<_, _≤_}
+use mathlib.Core.List.{List, [], _∷_, _++_}
+use Prim.Native.Nat.{ℕ, zero, _+_, _-_, _*_, _<_, _≤_}
 use native.Mathlib.Omega.{arith}
-use borrow.Author.Tests.{lt-ltb, le-ltb, ne-eqb, ltb-true, ltb-false}
+use borrow.Author.Tests.{lt-ltb, le-ltb, ltb-true, ltb-false}
 use lib.Dec.{ltb}
 use lib.ListN.{length, getD, set, replicate, length-append, length-set, getD-replicate, List·getD-append}
 use lib.Seq.{getD-set-same, getD-set-other, getD-append-add}
 use lib.IntN.{pos}
 use Rattle.remy.specs.declared.action.Action.{Action}
 use Rattle.remy.specs.Action.{actionOf}
-use Rattle.remy.specs.Cube.{usualEnds}
+use Rattle.remy.specs.declared.point.Point.{Point}
 use Rattle.remy.specs.Cube as cube
 use Rattle.rule_tree.specs.declared.Node.{Node}
 use Rattle.rule_tree.specs.declared.RuleTree.{RuleTree}
 use Rattle.rule_tree.specs.Nodes.{noNode, nodeAt, leafWith, linkedTo, blankNode, nodeCount}
-use Rattle.rule_tree.specs.Change.{freshTree, withAction, withMark, withoutMarks, unmarkedNode, splitAt}
-use Rattle.rule_tree.proofs.Changing.{split-length, split-splits, split-ends, split-parent, split-child, split-other, clear-length, clear-at, fresh-length}
-use Rattle.promise.specs.PlainTree.{Tree, Rule, nodes, member, isLeaf, ruleAt, unmarked, rootLeaf, split, setAction, mark, from, clearedRule, clearMarks}
-use Rattle.promise.proofs.Links.{same-or, link, link-owner, link-old, link-new, member-old}
+use Rattle.rule_tree.specs.Change.{freshTree, withAction, withMark, splitAt}
+use Rattle.rule_tree.proofs.Changing.{split-length, split-splits, split-ends, split-parent, split-child, split-other, fresh-length}
+use Rattle.promise.specs.PlainTree.{Tree, Rule, nodes, member, isLeaf, ruleAt, unmarked, rootLeaf, split, setAction, mark}
+use Rattle.promise.proofs.Links.{same-or, link, link-old, link-new, member-old}
 use Rattle.promise.proofs.Embed.{nodeWith, leafNode, nodeOf, embedTree, ValidTree, leaf-below, leaf-unsplit, parent-below, node-used, node-leaf, node-blank, embed-at, embed-length, nodes-same, tree-same}
 
 abbrev pub noRule : Rule
@@ -125,7 +125,7 @@ module _ (t : Tree) (i : ℕ) (v : ValidTree t) (l : isLeaf t i ≡ true) (r : l
       (sym (split-ends old i))
 
 -- ---- one leaf's rule replaced
-module _ (t u : Tree) (i : ℕ) (v : ValidTree t) (l : isLeaf t i ≡ true) (e : u .splits ≡ t .splits) (y : Node) where
+module _ (t u : Tree) (i : ℕ) (v : ValidTree t) (l : isLeaf t i ≡ true) (e : u .splits ≡ t .splits) (d : u .ends ≡ t .ends) (y : Node) where
   stored-at :
       leafNode (ruleAt u i) ≡ y → ((j : ℕ) → j ≢ i → ruleAt u j ≡ ruleAt t j) → (j : ℕ) → j < 513
       → nodeOf u j ≡ nodeAt (set (embedTree t .nodes) i y) j
@@ -142,13 +142,13 @@ module _ (t u : Tree) (i : ℕ) (v : ValidTree t) (l : isLeaf t i ≡ true) (e :
 
   pub stored-embeds :
       leafNode (ruleAt u i) ≡ y → ((j : ℕ) → j ≢ i → ruleAt u j ≡ ruleAt t j)
-      → embedTree u ≡ record { nodes = set (embedTree t .nodes) i y; splits = length (t .splits); ends = usualEnds }
+      → embedTree u ≡ record { nodes = set (embedTree t .nodes) i y; splits = length (t .splits); ends = t .ends }
   stored-embeds p q =
       tree-same (embedTree u) _
       (nodes-same (embedTree u .nodes) (set (embedTree t .nodes) i y) (embed-length u) (length-set (embedTree t .nodes) i y ∙ embed-length t)
       (λ j b. embed-at u j b ∙ stored-at p q j b))
       (ap length e)
-      refl
+      d
 
 module _ (t : Tree) (i : ℕ) (v : ValidTree t) (l : isLeaf t i ≡ true) where
   leaf-held : nodeAt (embedTree t .nodes) i ≡ leafNode (ruleAt t i)
@@ -159,97 +159,33 @@ module _ (t : Tree) (i : ℕ) (v : ValidTree t) (l : isLeaf t i ≡ true) where
 
   pub action-embeds : (a : Action) → embedTree (setAction t i a) ≡ withAction (embedTree t) i a
   action-embeds a =
-      stored-embeds t (setAction t i a) i v l refl _
+      stored-embeds t (setAction t i a) i v l refl refl _
       (ap leafNode (rule-stored (record { action = a; marked = ruleAt t i .marked }))
       ∙ ap (λ (x : Node). record { action = a; children = x .children; optimized = x .optimized }) (sym leaf-held))
       (λ j n. getD-set-other (t .rules) i j _ noRule n)
 
   pub mark-embeds : embedTree (mark t i) ≡ withMark (embedTree t) i
   mark-embeds =
-      stored-embeds t (mark t i) i v l refl _
+      stored-embeds t (mark t i) i v l refl refl _
       (ap leafNode (rule-stored (record { action = ruleAt t i .action; marked = true }))
       ∙ ap (λ (x : Node). record { action = x .action; children = x .children; optimized = true }) (sym leaf-held))
       (λ j n. getD-set-other (t .rules) i j _ noRule n)
 
--- ---- marks cleared
-clear-leaf : (r : Rule) → unmarkedNode (leafNode r) ≡ leafNode (unmarked (r .action))
-unfolding unmarkedNode
-clear-leaf r = refl
-
-clear-parent : (r : Rule) (c : ℕ) → c ≢ 0 → unmarkedNode (nodeWith r c) ≡ nodeWith r c
-unfolding unmarkedNode
-clear-parent r c n = rw (ne-eqb c 0 n)
-
-clear-blank : unmarkedNode blankNode ≡ blankNode
-unfolding unmarkedNode
-clear-blank = refl
-
--- ---- the numbers of the nodes
-pub length-from : (a n : ℕ) → length (from a n) ≡ n
-unfolding from
-length-from a zero = refl
-length-from a (suc n) = ap suc (length-from (suc a) n)
-
-mapped-from : (f : ℕ → Rule) (a n j : ℕ) → j < n → getD (map f (from a n)) j noRule ≡ f (a + j)
-unfolding from
-mapped-from f a zero j l = absurd (omega arith)
-mapped-from f a (suc n) zero l = ap f (omega arith)
-mapped-from f a (suc n) (suc j) l = mapped-from f (suc a) n j (omega arith) ∙ ap f (omega arith)
-
-module _ (t : Tree) (j : ℕ) (b : j < nodes t) where
-  pub cleared-rule : ruleAt (clearMarks t) j ≡ clearedRule t j
-  cleared-rule = mapped-from (clearedRule t) 0 (nodes t) j b ∙ ap (clearedRule t) (omega arith)
-
-  cleared-leaf : member j (t .splits) ≡ false → ruleAt (clearMarks t) j ≡ unmarked (ruleAt t j .action)
-  cleared-leaf m = cleared-rule ∙ rw (lt-ltb j (nodes t) b, m)
-
-  cleared-parent : member j (t .splits) ≡ true → ruleAt (clearMarks t) j ≡ ruleAt t j
-  cleared-parent m = cleared-rule ∙ rw (lt-ltb j (nodes t) b, m)
-
-cleared-at : (t : Tree) (j : ℕ) → nodeOf (clearMarks t) j ≡ unmarkedNode (nodeOf t j)
-cleared-at t j = go (ltb j (nodes t)) refl (member j (t .splits)) refl
-  where
-    go : (x : Bool) → ltb j (nodes t) ≡ x → (y : Bool) → member j (t .splits) ≡ y → nodeOf (clearMarks t) j ≡ unmarkedNode (nodeOf t j)
-    go true p true q =
-        let b = ltb-true j (nodes t) p in
-        let o = link-owner 0 (t .splits) j q in
-        node-used (clearMarks t) j b
-        ∙ ap (λ (r : Rule). nodeWith r (link 0 (t .splits) j)) (cleared-parent t j b q)
-        ∙ sym (clear-parent (ruleAt t j) (link 0 (t .splits) j) (λ e. absurd (omega (arith, o .gives))))
-        ∙ ap unmarkedNode (sym (node-used t j b))
-    go true p false q =
-        let b = ltb-true j (nodes t) p in
-        node-leaf (clearMarks t) j b q
-        ∙ ap leafNode (cleared-leaf t j b q)
-        ∙ sym (clear-leaf (ruleAt t j))
-        ∙ ap unmarkedNode (sym (node-leaf t j b q))
-    go false p y q =
-        let b = ltb-false j (nodes t) p in
-        node-blank (clearMarks t) j b ∙ sym clear-blank ∙ ap unmarkedNode (sym (node-blank t j b))
-
-pub clear-embeds : (t : Tree) → embedTree (clearMarks t) ≡ withoutMarks (embedTree t)
-clear-embeds t =
-    tree-same (embedTree (clearMarks t)) (withoutMarks (embedTree t))
-    (nodes-same (embedTree (clearMarks t) .nodes) (withoutMarks (embedTree t) .nodes) (embed-length (clearMarks t)) (clear-length (embedTree t) ∙ embed-length t)
-    (λ j b. embed-at (clearMarks t) j b ∙ cleared-at t j ∙ ap unmarkedNode (sym (embed-at t j b)) ∙ sym (clear-at (embedTree t) j)))
-    refl
-    refl
-
 -- ---- the root leaf
-root-at : (a : Action) (j : ℕ) → j < 513 → nodeOf (rootLeaf a) j ≡ nodeAt (freshTree usualEnds a .nodes) j
+root-at : (ends : Point) (a : Action) (j : ℕ) → j < 513 → nodeOf (rootLeaf ends a) j ≡ nodeAt (freshTree ends a .nodes) j
 unfolding member
-root-at a j b =
+root-at ends a j b =
     ⊎-elim
-    (λ (p : j ≡ 0). subst (λ (m : ℕ). nodeOf (rootLeaf a) m ≡ nodeAt (freshTree usualEnds a .nodes) m) (sym p) (node-leaf (rootLeaf a) 0 (omega arith) refl))
-    (λ (n : j ≢ 0). node-blank (rootLeaf a) j (omega arith)
+    (λ (p : j ≡ 0). subst (λ (m : ℕ). nodeOf (rootLeaf ends a) m ≡ nodeAt (freshTree ends a .nodes) m) (sym p) (node-leaf (rootLeaf ends a) 0 (omega arith) refl))
+    (λ (n : j ≢ 0). node-blank (rootLeaf ends a) j (omega arith)
     ∙ sym (getD-replicate 513 j blankNode noNode b)
     ∙ sym (getD-set-other (replicate 513 blankNode) 0 j (leafWith a) noNode n))
     (same-or j 0)
 
-pub root-embeds : (a : Action) → embedTree (rootLeaf a) ≡ freshTree usualEnds a
-root-embeds a =
-    tree-same (embedTree (rootLeaf a)) (freshTree usualEnds a)
-    (nodes-same (embedTree (rootLeaf a) .nodes) (freshTree usualEnds a .nodes) (embed-length (rootLeaf a)) (fresh-length usualEnds a)
-    (λ j b. embed-at (rootLeaf a) j b ∙ root-at a j b))
+pub root-embeds : (ends : Point) (a : Action) → embedTree (rootLeaf ends a) ≡ freshTree ends a
+root-embeds ends a =
+    tree-same (embedTree (rootLeaf ends a)) (freshTree ends a)
+    (nodes-same (embedTree (rootLeaf ends a) .nodes) (freshTree ends a .nodes) (embed-length (rootLeaf ends a)) (fresh-length ends a)
+    (λ j b. embed-at (rootLeaf ends a) j b ∙ root-at ends a j b))
     refl
     refl

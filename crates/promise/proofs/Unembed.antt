@@ -20,12 +20,15 @@ use Rattle.trainer.specs.declared.Trainer.{Trainer}
 use Rattle.trainer.specs.Settings.{settingsHold}
 use Rattle.trainer.specs.Candidates.{candidatesOf}
 use Rattle.trainer.specs.State.{none, stand, atLeaf, zeroBits, untriedIn, untried, idle, leafAction, leafHolds, keptIn, keptHolds, tryHolds, splitting, tuning, ending, phaseHolds, acceptedOf}
+use Rattle.record.proofs.RoundTrip as stored
+use Rattle.record.proofs.StepsFit.{whole-fits}
 use Rattle.promise.specs.PlainTree.{Rule}
 use Rattle.promise.specs.PlainTrainer.{State, Phase, Kept, nothing, just, phase1, phase2, phase3, phase4, phase5, phase6, phase7, at, keptNumber, keptScore}
+use Rattle.promise.proofs.Candidates.{candidates-same}
 use Rattle.promise.proofs.States.{embedIn, embed, Splitting, Tuning, Ending, AtLeaf, KeptHolds, ValidPhase, ValidState}
 use Rattle.promise.specs.Values.{FitSettings}
-use Rattle.promise.proofs.Fitting.{FitPhase, FitState}
-use Rattle.promise.proofs.UnembedTree.{plainTree, rule-back, leaf-back, tree-valid, tree-back, rules-fit}
+use Rattle.promise.proofs.Fitting.{FitState, settings-fit}
+use Rattle.promise.proofs.UnembedTree.{plainTree, rule-back, leaf-back, tree-valid, tree-back}
 
 -- the trainer's values are of their types, as those of every trainer that a program holds
 pub record TrainerFits (t : Trainer) : Type 0 where
@@ -250,7 +253,6 @@ record Shape (t : Trainer) : Type 0 where
   pub is : plainPhase t ≡ phase
   pub same : t ≡ embedIn (t .settings) (t .tree) (t .stage) (t .round) phase
   pub valid : ValidPhase (t .settings) (plainTree (t .tree)) (t .stage) (t .round) phase
-  pub fitting : FitPhase phase
 
 phase-at :
     (t : Trainer) (n : ℕ) → t .phase ≡ n → plainPhase t ≡ phaseOf n (t .leaf) (t .best) (t .k) (keptOf (t .kept) (t .«kept_score»))
@@ -283,12 +285,11 @@ module _ (t : Trainer) (g : grownOf (t .tree) ≡ true) (f : TrainerFits t) wher
           (
             at-leaf (and-left (leafHolds t) _ l),
             record {
-              below = subst (λ (r : Rule). t .k < length (candidatesOf (t .settings) (r .action))) (sym r) (q .0);
+              below = rw (r, candidates-same (t .settings) (leafAction t)) (q .0);
               held = b .holds;
             },
           ),
         );
-        fitting = (f .best, subst (λ (y : Float). T (fits binary64 y)) (b .score) (f .score));
       }
 
   shape-of :
@@ -297,17 +298,16 @@ module _ (t : Trainer) (g : grownOf (t .tree) ≡ true) (f : TrainerFits t) wher
   unfolding phaseOf
   shape-of (is1 e h) =
       let p = splitting-parts t h in
-      record { phase = phase1; is = phase-at t 1 e; same = stand-back t f 1 e (p .1); valid = p .0; fitting = tt }
+      record { phase = phase1; is = phase-at t 1 e; same = stand-back t f 1 e (p .1); valid = p .0 }
   shape-of (is2 e h) =
       let p = splitting-parts t h in
-      record { phase = phase2; is = phase-at t 2 e; same = stand-back t f 2 e (p .1); valid = p .0; fitting = tt }
+      record { phase = phase2; is = phase-at t 2 e; same = stand-back t f 2 e (p .1); valid = p .0 }
   shape-of (is3 e h) =
       record {
         phase = phase3;
         is = phase-at t 3 e;
         same = stand-back t f 3 e (and-right (tuning t) _ h);
         valid = tuning-parts t (and-left (tuning t) _ h);
-        fitting = tt;
       }
   shape-of (is4 e h) =
       let l = and-right (tuning t) _ h in
@@ -316,15 +316,14 @@ module _ (t : Trainer) (g : grownOf (t .tree) ≡ true) (f : TrainerFits t) wher
         is = phase-at t 4 e;
         same = asking-back t f e (and-right (leafHolds t) _ l);
         valid = (tuning-parts t (and-left (tuning t) _ h), at-leaf (and-left (leafHolds t) _ l));
-        fitting = tt;
       }
   shape-of (is5 e h) = shape5 e h
   shape-of (is6 e h) =
       let p = ending-parts t h in
-      record { phase = phase6; is = phase-at t 6 e; same = stand-back t f 6 e (p .1); valid = p .0; fitting = tt }
+      record { phase = phase6; is = phase-at t 6 e; same = stand-back t f 6 e (p .1); valid = p .0 }
   shape-of (is7 e h) =
       let p = ending-parts t h in
-      record { phase = phase7; is = phase-at t 7 e; same = stand-back t f 7 e (p .1); valid = p .0; fitting = tt }
+      record { phase = phase7; is = phase-at t 7 e; same = stand-back t f 7 e (p .1); valid = p .0 }
 
 -- ---- the accepted trainer and its plain state
 module _ (t : Trainer) (a : acceptedOf t ≡ true) where
@@ -349,7 +348,7 @@ module _ (t : Trainer) (a : acceptedOf t ≡ true) (f : TrainerFits t) where
   pub plain-embeds : embed (plainOf t) ≡ t
   plain-embeds =
       ap (λ (u : RuleTree). embedIn (t .settings) u (t .stage) (t .round) (plainPhase t))
-      (tree-back (t .tree) (accepted-grown t a) (f .sized) (f .ends) (f .nodes))
+      (tree-back (t .tree) (accepted-grown t a) (f .sized) (f .nodes))
       ∙ ap (embedIn (t .settings) (t .tree) (t .stage) (t .round)) (shape .is)
       ∙ sym (shape .same)
 
@@ -357,14 +356,20 @@ module _ (t : Trainer) (a : acceptedOf t ≡ true) (f : TrainerFits t) where
   plain-valid =
       record {
         settings = accepted-settings t a;
-        tree = tree-valid (t .tree) (accepted-grown t a) (f .sized);
+        tree = tree-valid (t .tree) (accepted-grown t a) (f .sized) (f .ends);
         phase = subst (ValidPhase (t .settings) (plainTree (t .tree)) (t .stage) (t .round)) (sym (shape .is)) (shape .valid);
       }
 
+  -- all of its values are of their types, whole numbers too
+  pub whole-typed : stored.TrainerFits t
+  whole-typed =
+      whole-fits t a
+      (record {
+        settings = settings-fit (t .settings) (accepted-settings t a) (f .settings);
+        tree = record { full = f .sized; ends = f .ends; actions = f .nodes };
+        best = f .best;
+        score = f .score;
+      })
+
   pub plain-fits : FitState (plainOf t)
-  plain-fits =
-      record {
-        settings = f .settings;
-        rules = rules-fit (t .tree) (accepted-grown t a) (f .nodes);
-        phase = subst FitPhase (sym (shape .is)) (shape .fitting);
-      }
+  plain-fits = rw plain-embeds whole-typed

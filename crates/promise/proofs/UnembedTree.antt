@@ -2,7 +2,7 @@
 use mathlib.Core.Path.{_≡_, refl, sym, ap, subst, _∙_}
 use mathlib.Core.Bool.{Bool, true, false}
 use mathlib.Core.Logic.{⊎-elim}
-use mathlib.Core.List.{List, [], _∷_, _++_}
+use mathlib.Core.List.{List, [], _∷_}
 use Prim.Native.Nat.{ℕ, zero, suc, _+_, _*_, _/_, _<_, _≤_}
 use native.Mathlib.Omega.{arith}
 use borrow.Author.Tests.{eq-eqb, ltb-true, ltb-false}
@@ -23,12 +23,10 @@ use Rattle.rule_tree.proofs.GrownTree.{child-at}
 use Rattle.rule_tree.proofs.GrownTree as tree
 use Rattle.rule_tree.proofs.Owners.{same-or-not}
 use Rattle.rule_tree.proofs.Plain.{ActionFits, PointFits, plain-action, plain-unmarked}
-use Rattle.rule_tree.proofs.Links.{grown-splits, grown-link, grown-split, grown-owner, grown-valid, grown-unused-leaf, grown-unused-plain, grown-ends}
+use Rattle.rule_tree.proofs.Links.{grown-splits, grown-link, grown-split, grown-owner, grown-valid, grown-unused-leaf, grown-unused-plain, grown-ends-hold}
 use Rattle.promise.specs.PlainTree.{Tree, Rule, nodes, member, isLeaf, ruleAt}
 use Rattle.promise.proofs.Links.{or-right, link, link-leaf, link-owner}
 use Rattle.promise.proofs.Embed.{nodeWith, nodeOf, embedTree, ValidTree, leaf-from, node-used, node-blank, embed-at, embed-length, nodes-same, tree-same}
-use Rattle.promise.specs.Values.{Every}
-use Rattle.promise.proofs.Fitting.{FitRule}
 use Rattle.promise.proofs.TreeSteps.{noRule}
 
 -- ---- lists
@@ -47,6 +45,7 @@ plainTree t =
     record {
       splits = take (t .splits) (splitNodes (childrenOf (t .nodes)));
       rules = tabulate (nodeCount (t .splits)) (λ i. ruleOf (nodeAt (t .nodes) i));
+      ends = t .ends;
     }
 
 node-rebuilt :
@@ -157,14 +156,16 @@ module _ (t : RuleTree) (g : grownOf t ≡ true) (full : length (t .nodes) ≡ 5
       let l : i < nodeCount (t .splits) = omega (arith, nodes-count t g) in
       ap (λ (r : Rule). validOf (r .action)) (rule-back t g i l) ∙ grown-valid t g i l
 
-  pub tree-valid : ValidTree (plainTree t)
-  tree-valid =
+  pub tree-valid : PointFits (t .ends) → ValidTree (plainTree t)
+  tree-valid e =
       record {
         few = omega (arith, splits-count t g, grown-splits t g);
         sized = length-tabulate (nodeCount (t .splits)) (λ i. ruleOf (nodeAt (t .nodes) i)) ∙ sym (nodes-count t g);
         grew = λ k l. split-low k (omega (arith, splits-count t g));
         once = λ k l. split-once k (omega (arith, splits-count t g));
         actions = node-action;
+        box = grown-ends-hold t g;
+        floats = e;
       }
 
   -- ---- node by node
@@ -185,26 +186,10 @@ module _ (t : RuleTree) (g : grownOf t ≡ true) (full : length (t .nodes) ≡ 5
           let u : nodeCount (t .splits) ≤ i = omega (arith, nodes-count t g) in
           node-blank (plainTree t) i l ∙ sym (unused-blank x (grown-unused-plain t g i u b) f (grown-unused-leaf t g i u b))
 
-  pub tree-back : PointFits (t .ends) → ((i : ℕ) → i < 513 → ActionFits (nodeAt (t .nodes) i .action)) → embedTree (plainTree t) ≡ t
-  tree-back e f =
+  pub tree-back : ((i : ℕ) → i < 513 → ActionFits (nodeAt (t .nodes) i .action)) → embedTree (plainTree t) ≡ t
+  tree-back f =
       tree-same (embedTree (plainTree t)) t
       (nodes-same (embedTree (plainTree t) .nodes) (t .nodes) (embed-length (plainTree t)) full
       (λ i l. embed-at (plainTree t) i l ∙ node-back i l (f i l)))
       (splits-count t g)
-      (sym (grown-ends t g e))
-
--- ---- the floats
-every-last : {A : Type 0} (P : A → Type 0) (xs : List A) (y : A) → Every P xs → P y → Every P (xs ++ (y ∷ []))
-every-last P [] y h p = (p, tt)
-every-last P (x ∷ xs) y h p = (h .0, every-last P xs y (h .1) p)
-
-every-tabulated : {A : Type 0} (P : A → Type 0) (n : ℕ) (f : ℕ → A) → ((i : ℕ) → i < n → P (f i)) → Every P (tabulate n f)
-unfolding tabulate
-every-tabulated P zero f h = tt
-every-tabulated P (suc n) f h = every-last P (tabulate n f) (f n) (every-tabulated P n f (λ i l. h i (omega arith))) (h n (omega arith))
-
-pub rules-fit :
-    (t : RuleTree) → grownOf t ≡ true → ((i : ℕ) → i < 513 → ActionFits (nodeAt (t .nodes) i .action)) → Every FitRule (plainTree t .rules)
-rules-fit t g f =
-    every-tabulated FitRule (nodeCount (t .splits)) (λ i. ruleOf (nodeAt (t .nodes) i))
-    (λ i l. let w = f i (omega (arith, grown-splits t g)) in record { multiplier = w .multiplier; delay = w .delay })
+      refl

@@ -2,7 +2,7 @@
 -- Assumes nothing.
 use mathlib.Core.Path.{_≡_, refl, sym, ap, subst, _∙_}
 use mathlib.Core.Bool.{true, false}
-use mathlib.Core.List.{List, [], _∷_}
+use mathlib.Core.List.{List, [], _∷_, _++_}
 use Prim.Native.Nat.{ℕ}
 use borrow.Author.Tests.{lt-ltb, ltb-true}
 use lib.Dec.{ltb}
@@ -24,14 +24,16 @@ use Rattle.sender.specs.declared.Draw.{Draw}
 use Rattle.sender.specs.declared.Sender.{Sender}
 use Rattle.sender.specs.SenderCall.{SenderCall, ack, send, tick, over}
 use Rattle.promise.specs.PlainTree.{Tree}
-use Rattle.promise.specs.SenderRuns.{senderEvents, plainStart, plainSenderEvents}
-use Rattle.promise.specs.Demand3.{InLeaf, InNoLeaf, Parted, SameTree, callsOver, senderBefore, oneMore, AckHolds}
+use Rattle.promise.specs.PlainSender.{PlainSender, stateOf, react}
+use Rattle.promise.specs.SenderRuns.{SenderStep, senderEvents, senderEnd, plainStart, plainSenderEvents, plainSenderEnd}
+use Rattle.promise.specs.Demand3.{InLeaf, InNoLeaf, Parted, SameTree, callsOver, senderBefore, oneMore, AckHolds, SendHolds, TickHolds, Passing, Unmoved}
 use Rattle.promise.proofs.Embed.{embedTree, ValidTree, leaf-below, embed-length}
 use Rattle.promise.proofs.TreeGrown.{grown-embeds}
 use Rattle.promise.proofs.TreeKeeps.{leaf-embeds, leaf-node}
-use Rattle.promise.proofs.SenderLeaf.{usual-fits, cube-embeds}
-use Rattle.promise.proofs.SenderRun.{embedCalls, AckOver, Over, sender-agrees}
-use Rattle.promise.proofs.SenderAck.{ackStep, ack-does, ack-unread}
+use Rattle.promise.proofs.SenderLeaf.{cube-embeds}
+use Rattle.promise.proofs.SenderRender.{map-more}
+use Rattle.promise.proofs.SenderRun.{embedCalls, AckOver, Over, plainStep, sender-agrees, next-step}
+use Rattle.promise.proofs.SenderAck.{plain-ack, plain-send, plain-tick, refused-unmoved, send-unmoved, tick-unmoved}
 
 -- ---- trees
 root-box : (t : RuleTree) → cubeOf t 0 ≡ rootOf (t .ends)
@@ -64,7 +66,7 @@ module _ (t : RuleTree) (g : grownOf t ≡ true) (n : length (t .nodes) ≡ 513)
       record { inside = λ e. (leafOf t p, in-leaf (sym b ∙ e)); outside = λ e. in-no-leaf (sym b ∙ e) }
 
 pub tree-parted : (t : Tree) → ValidTree t → (p : Point) → Parted (embedTree t) p
-tree-parted t v p = grown-parted (embedTree t) (grown-embeds t v) (embed-length t) usual-fits p
+tree-parted t v p = grown-parted (embedTree t) (grown-embeds t v) (embed-length t) (v .floats) p
 
 pub tree-same : (t : Tree) → ValidTree t → SameTree (embedTree t) t
 tree-same t v =
@@ -75,7 +77,13 @@ tree-same t v =
       action = λ i l. ap (λ (x : Node). x .action) (leaf-node t v i l);
     }
 
--- ---- senders, over trees that valid plain trees stand for
+-- ---- senders
+end-more : (cs : List (SenderCall Tree)) (c : SenderCall Tree) (s : PlainSender) → plainSenderEnd s (cs ++ (c ∷ [])) ≡ react (plainSenderEnd s cs) c .sender
+unfolding plainSenderEnd
+end-more [] c s = refl
+end-more (x ∷ xs) c s = end-more xs c (react s x .sender)
+
+-- over trees that valid plain trees stand for
 module _ (trees : ℕ → RuleTree) (plains : ℕ → Tree) (alike : (k : ℕ) → trees k ≡ embedTree (plains k)) (valid : (k : ℕ) → ValidTree (plains k)) where
   call-over : (w : SenderCall ℕ) → AckOver ValidTree (over plains w)
   unfolding over
@@ -97,18 +105,49 @@ module _ (trees : ℕ → RuleTree) (plains : ℕ → Tree) (alike : (k : ℕ) �
   calls-embed [] = refl
   calls-embed (w ∷ ws) = rw (call-embeds w, calls-embed ws)
 
-  pub way-events : (start : Sender) (ws : List (SenderCall ℕ)) → senderEvents start (callsOver trees ws) ≡ plainSenderEvents (plainStart start) (callsOver plains ws)
-  way-events start ws = ap (senderEvents start) (calls-embed ws) ∙ sender-agrees start (callsOver plains ws) (calls-over ws) .0
+  module _ (start : Sender) (ws : List (SenderCall ℕ)) where
+    pub way-events : senderEvents start (callsOver trees ws) ≡ plainSenderEvents (plainStart start) (callsOver plains ws)
+    way-events = ap (senderEvents start) (calls-embed ws) ∙ sender-agrees start (callsOver plains ws) (calls-over ws) .0
 
-  module _ (start : Sender) (ws : List (SenderCall ℕ)) (k : ℕ) (sent received : Float) (draw : Draw) where
-    one-more : oneMore trees start ws (ack k sent received draw) ≡ ackStep start (callsOver plains ws) (calls-over ws) (plains k) (valid k) sent received draw
+    pub way-left : senderEnd start (callsOver trees ws) ≡ stateOf (senderBefore plains start ws)
+    way-left = ap (senderEnd start) (calls-embed ws) ∙ sender-agrees start (callsOver plains ws) (calls-over ws) .1
+
+    -- one more call
+    one-more : (w : SenderCall ℕ) → plainStep (react (senderBefore plains start ws) (over plains w)) ≡ oneMore trees start ws w
+    one-more w =
+        sym (rw (calls-embed ws, call-embeds w) (next-step start (callsOver plains ws) (calls-over ws) (over plains w) (call-over w)))
+
+    pub way-ack :
+        (k : ℕ) (sent received : Float) (draw : Draw)
+        → AckHolds (senderBefore plains start ws) (plains k) sent received draw (oneMore trees start ws (ack k sent received draw))
     unfolding over
-    one-more = rw (calls-embed ws, alike k)
+    way-ack k sent received draw =
+        subst (AckHolds (senderBefore plains start ws) (plains k) sent received draw) (one-more (ack k sent received draw))
+        (plain-ack (senderBefore plains start ws) (plains k) sent received draw (valid k))
 
-    pub way-ack : AckHolds (senderBefore plains start ws) (plains k) sent received draw (oneMore trees start ws (ack k sent received draw))
-    way-ack =
-        subst (AckHolds (senderBefore plains start ws) (plains k) sent received draw) (sym one-more)
-        (record {
-          unread = ack-unread start (callsOver plains ws) (calls-over ws) (plains k) (valid k) sent received draw .1;
-          does = ack-does start (callsOver plains ws) (calls-over ws) (plains k) (valid k) sent received draw;
-        })
+    pub way-send : (at : Float) → SendHolds at (oneMore trees start ws (send at))
+    unfolding over
+    way-send at = subst (SendHolds at) (one-more (send at)) (plain-send (senderBefore plains start ws) at)
+
+    pub way-tick : TickHolds (senderBefore plains start ws) (oneMore trees start ws tick)
+    unfolding over
+    way-tick = subst (TickHolds (senderBefore plains start ws)) (one-more tick) (plain-tick (senderBefore plains start ws))
+
+    -- one call more on the plain side
+    before-more : (w : SenderCall ℕ) → react (senderBefore plains start ws) (over plains w) .sender ≡ senderBefore plains start (ws ++ (w ∷ []))
+    before-more w = sym (ap (plainSenderEnd (plainStart start)) (map-more (over plains) ws w) ∙ end-more (callsOver plains ws) (over plains w) (plainStart start))
+
+    passing-unmoved :
+        (w : SenderCall ℕ) → Passing w (oneMore trees start ws w)
+        → Unmoved (senderBefore plains start ws) (react (senderBefore plains start ws) (over plains w) .sender)
+    unfolding over
+    passing-unmoved (ack k sent received draw) n =
+        refused-unmoved (senderBefore plains start ws) (ack (plains k) sent received draw)
+        (λ z. n (sym (ap (λ (o : SenderStep). o .event .refused) (one-more (ack k sent received draw))) ∙ z))
+    passing-unmoved (send at) n = send-unmoved (senderBefore plains start ws) at
+    passing-unmoved tick n = tick-unmoved (senderBefore plains start ws)
+
+    pub way-unmoved :
+        (w : SenderCall ℕ) → Passing w (oneMore trees start ws w)
+        → Unmoved (senderBefore plains start ws) (senderBefore plains start (ws ++ (w ∷ [])))
+    way-unmoved w n = subst (Unmoved (senderBefore plains start ws)) (before-more w) (passing-unmoved w n)

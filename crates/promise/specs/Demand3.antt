@@ -1,13 +1,15 @@
 -- Demand 3: what is compared and claimed over every list of calls.
 use mathlib.Core.Path.{_≡_}
 use mathlib.Core.Bool.{true, false, _&&_, cond}
-use mathlib.Core.List.{List, [], _∷_, map}
+use mathlib.Core.Logic.{_≢_}
+use mathlib.Core.List.{List, [], _∷_, _++_, map}
 use Prim.Native.Nat.{ℕ}
 use lib.ListN.{length, take}
-use lib.Dec.{eqb}
+use lib.Dec.{T, eqb}
 use lib.Ieee.{Float}
+use Rattle.quantities.specs.Time.{moment}
 use Rattle.remy.specs.declared.point.Point.{Point}
-use Rattle.remy.specs.Cube.{usualEnds, rootOf, containsOf}
+use Rattle.remy.specs.Cube.{rootOf, containsOf}
 use Rattle.rule_tree.specs.declared.RuleTree.{RuleTree}
 use Rattle.rule_tree.specs.declared.Looked.the-variants as looked
 use Rattle.rule_tree.specs.Nodes.{nodeAt}
@@ -25,11 +27,12 @@ use Rattle.record.specs.Write.{recordOf}
 use Rattle.record.specs.Calls.{saveOf, bufferAfter, loadOf}
 use Rattle.sender.specs.declared.Draw.{Draw}
 use Rattle.sender.specs.declared.Sender.{Sender}
-use Rattle.sender.specs.SenderCall.{SenderCall, ack, over}
+use Rattle.sender.specs.declared.Moment.the-variants as held
+use Rattle.sender.specs.SenderCall.{SenderCall, ack, send, tick, over}
 use Rattle.promise.specs.PlainTree.{Tree, isLeaf, ruleAt}
 use Rattle.promise.specs.PlainTrainer as plain
-use Rattle.promise.specs.PlainSender.{PlainSender, cubeIn, admitted, readAs, ackPoint}
-use Rattle.promise.specs.SenderRuns.{SenderStep, senderStep, senderEvents, senderEnd, plainStart, plainSenderEvents, plainSenderEnd, AckDoes}
+use Rattle.promise.specs.PlainSender.{PlainSender, cubeIn, pendingNow, windowHeld, stateOf, admitted, readAs, ackPoint}
+use Rattle.promise.specs.SenderRuns.{event, SenderStep, senderStep, senderEvents, senderEnd, plainStart, plainSenderEvents, plainSenderEnd, AckDoes}
 
 -- ---- the trainer's calls, as their contracts have them
 pub record Step : Type 0 where
@@ -119,7 +122,7 @@ pub record Parted (t : RuleTree) (p : Point) : Type 0 where
 
 -- the trainer's tree and the plain trainer's: the same root box, and the same leaves with the same cubes and actions
 pub record SameTree (t : RuleTree) (u : Tree) : Type 0 where
-  pub box : cubeOf t 0 ≡ rootOf usualEnds
+  pub box : cubeOf t 0 ≡ rootOf (u .ends)
   pub leaf : (i : ℕ) → leafIn t i ≡ isLeaf u i
   pub cube : (i : ℕ) → isLeaf u i ≡ true → cubeOf t i ≡ cubeIn u i
   pub action : (i : ℕ) → isLeaf u i ≡ true → nodeAt (t .nodes) i .action ≡ ruleAt u i .action
@@ -135,10 +138,34 @@ senderBefore trees start ws = plainSenderEnd (plainStart start) (callsOver trees
 abbrev pub oneMore : (ℕ → RuleTree) → Sender → List (SenderCall ℕ) → SenderCall ℕ → SenderStep
 oneMore trees start ws w = senderStep (senderEnd start (callsOver trees ws)) (over trees w)
 
--- what is claimed of an ack over the tree t, s being the plain sender before it and o what it does
+-- what is claimed of one more call, s being the plain sender before it and o what it does
+-- an ack over the tree t: 1 exactly where a moment is not admitted
 pub record AckHolds (s : PlainSender) (t : Tree) (sent received : Float) (draw : Draw) (o : SenderStep) : Type 0 where
-  pub unread : admitted sent && admitted received ≡ false → o .event .refused ≡ 1
+  pub unread :
+      (o .event .refused ≡ 1 → admitted sent && admitted received ≡ false)
+      × (admitted sent && admitted received ≡ false → o .event .refused ≡ 1)
   pub does : admitted sent && admitted received ≡ true → AckDoes s t (ackPoint s (readAs sent) (readAs received)) draw o
+
+-- a send: 1 exactly where its moment is not admitted; else it stands, and the window is 0
+pub record SendHolds (at : Float) (o : SenderStep) : Type 0 where
+  pub unread : (o .event .refused ≡ 1 → admitted at ≡ false) × (admitted at ≡ false → o .event .refused ≡ 1)
+  pub does : admitted at ≡ true → (o .event ≡ event 0 0) × (o .sender .«last_send» ≡ held.At (moment (readAs at)))
+
+-- a tick: no send stands, and the window is handed back
+pub record TickHolds (s : PlainSender) (o : SenderStep) : Type 0 where
+  pub answer : o .event ≡ event 0 (windowHeld s)
+  pub standing : o .sender .«last_send» ≡ held.Never
+
+-- a send, a tick or a refused ack
+abbrev pub Passing : SenderCall ℕ → SenderStep → Type 0
+Passing (ack k sent received draw) o = o .event .refused ≢ 0
+Passing (send at) o = T true
+Passing tick o = T true
+
+-- "change neither a later ack's point nor the pending repeat": the plain senders before and after
+pub record Unmoved (s u : PlainSender) : Type 0 where
+  pub point : (sent received : Float) → ackPoint u sent received ≡ ackPoint s sent received
+  pub pending : pendingNow u ≡ pendingNow s
 
 -- ---- the claim
 pub record Demand3 (s : Settings) (cs : List plain.Call) : Type 0 where
@@ -151,7 +178,18 @@ pub record Demand3 (s : Settings) (cs : List plain.Call) : Type 0 where
   pub senders :
       (start : Sender) (ws : List (SenderCall ℕ))
       → senderEvents start (callsOver (treeAfter s cs) ws) ≡ plainSenderEvents (plainStart start) (callsOver (plainTreeAfter s cs) ws)
+  pub left :
+      (start : Sender) (ws : List (SenderCall ℕ))
+      → senderEnd start (callsOver (treeAfter s cs) ws) ≡ stateOf (senderBefore (plainTreeAfter s cs) start ws)
   pub acks :
       (start : Sender) (ws : List (SenderCall ℕ)) (k : ℕ) (sent received : Float) (draw : Draw)
       → AckHolds (senderBefore (plainTreeAfter s cs) start ws) (plainTreeAfter s cs k) sent received draw
       (oneMore (treeAfter s cs) start ws (ack k sent received draw))
+  pub unmoved :
+      (start : Sender) (ws : List (SenderCall ℕ)) (w : SenderCall ℕ) → Passing w (oneMore (treeAfter s cs) start ws w)
+      → Unmoved (senderBefore (plainTreeAfter s cs) start ws) (senderBefore (plainTreeAfter s cs) start (ws ++ (w ∷ [])))
+  pub sends :
+      (start : Sender) (ws : List (SenderCall ℕ)) (at : Float) → SendHolds at (oneMore (treeAfter s cs) start ws (send at))
+  pub ticks :
+      (start : Sender) (ws : List (SenderCall ℕ))
+      → TickHolds (senderBefore (plainTreeAfter s cs) start ws) (oneMore (treeAfter s cs) start ws tick)

@@ -1,6 +1,10 @@
 pub mod PlainTree
+pub mod PlainRecord
+pub mod PlainCandidates
+pub mod PlainSettings
 pub mod PlainTrainer
 pub mod PlainSender
 pub mod SenderRuns
 pub mod Values
+pub mod Originals
 pub mod Demand3

@@ -1,5 +1,5 @@
 -- Document 01's plain sender: the start, the history of taken acks, and the send that stands.
-use mathlib.Core.Bool.{Bool, true, false, _&&_, _||_, cond}
+use mathlib.Core.Bool.{Bool, true, false, not, _&&_, cond}
 use mathlib.Core.List.{List, [], _∷_, _++_, map}
 use Prim.Native.Nat.{ℕ, zero, suc}
 use lib.Dec.{leb}
@@ -49,6 +49,11 @@ unfoldable pub blend : Average → Float → Average
 blend averaged.Empty gap = averaged.Of (span gap)
 blend (averaged.Of a) gap = averaged.Of (span (average (a .0) gap))
 
+-- the last of the moments after one that is held
+unfoldable pub lastAfter : Moment → List Float → Moment
+lastAfter last [] = last
+lastAfter last (m ∷ ms) = lastAfter (held.At (moment m)) ms
+
 -- over the moments after a last one
 unfoldable pub averageAfter : Average → Moment → List Float → Average
 unfolding blend
@@ -78,6 +83,16 @@ ratioOf (trips.Known shortest current) = div binary64 (current .0) (shortest .0)
 
 abbrev pub roundTrip : TakenAck → Float
 roundTrip x = sub binary64 (x .received) (x .sent)
+
+-- the history's moments and round trips
+abbrev pub sents : PlainSender → List Float
+sents s = map (λ (x : TakenAck). x .sent) (s .history)
+
+abbrev pub receiveds : PlainSender → List Float
+receiveds s = map (λ (x : TakenAck). x .received) (s .history)
+
+abbrev pub rounds : PlainSender → List Float
+rounds s = map roundTrip (s .history)
 
 -- the point that sent moments, received moments and round trips make of a sender
 abbrev pub pointFrom : Sender → List Float → List Float → List Float → Point
@@ -114,6 +129,23 @@ windowHeld s = windowAfter (s .start .window) (s .history)
 abbrev pub waitHeld : PlainSender → TimeSpan
 waitHeld s = waitAfter (s .start .«intersend_delay») (s .history)
 
+-- the whole sender that the start, the taken acks and the standing send make: its memory of moments, averages and round trips, the pending
+-- repeat, the mode, the standing send, the window and the wait
+abbrev pub stateOf : PlainSender → Sender
+stateOf s =
+    record {
+      «last_ack» = lastAfter (s .start .«last_ack») (receiveds s);
+      «last_ack_send» = lastAfter (s .start .«last_ack_send») (sents s);
+      «ack_ewma» = averageAfter (s .start .«ack_ewma») (s .start .«last_ack») (receiveds s);
+      «send_ewma» = averageAfter (s .start .«send_ewma») (s .start .«last_ack_send») (sents s);
+      rtt = tripsAfter (s .start .rtt) (rounds s);
+      «next_change» = pendingNow s;
+      «repeat_actions» = s .start .«repeat_actions»;
+      «last_send» = s .standing;
+      window = windowHeld s;
+      «intersend_delay» = waitHeld s;
+    }
+
 -- "The answer is 0 while a send stands, else the window"
 unfoldable pub shown : Moment → ℕ → ℕ
 shown held.Never w = w
@@ -121,7 +153,7 @@ shown (held.At t) w = 0
 
 -- ---- the leaf that holds a point
 abbrev pub cubeIn : Tree → ℕ → Cube
-cubeIn t i = cubeAt i (t .splits) (cube.rootOf cube.usualEnds) i
+cubeIn t i = cubeAt i (t .splits) (cube.rootOf (t .ends)) i
 
 unfoldable pub holding : Tree → Point → List ℕ → Choice
 holding t p [] = nobody
@@ -159,25 +191,33 @@ take s sent received a next =
       standing = s .standing;
     })
 
--- "then a draw is taken: off, always n, or lo..=hi handed in"; "5 a due draw absent or outside lo..=hi"
-unfoldable pub drawFor : PlainSender → Float → Float → Action → RepeatMode → Draw → Reaction
-drawFor s sent received a Off draw = take s sent received a Idle
-drawFor s sent received a (Always n) draw = take s sent received a (Repeat n a)
-drawFor s sent received a (Between lo hi) Absent = refuse 5 s
-drawFor s sent received a (Between lo hi) (Given n) = cond (leb lo n && leb n hi) (take s sent received a (Repeat n a)) (refuse 5 s)
+-- "5 a due draw absent or outside lo..=hi (one not due is ignored; off and always n, none is due)"
+unfoldable pub drawFails : RepeatMode → Draw → Bool
+drawFails Off draw = false
+drawFails (Always n) draw = false
+drawFails (Between lo hi) Absent = true
+drawFails (Between lo hi) (Given n) = not (leb lo n && leb n hi)
+
+-- "then a draw is taken: off, always n, or lo..=hi handed in"; what it leaves pending, nothing where none was handed in
+unfoldable pub drawLeaves : RepeatMode → Draw → Action → Pending
+drawLeaves Off draw a = Idle
+drawLeaves (Always n) draw a = Repeat n a
+drawLeaves (Between lo hi) Absent a = Idle
+drawLeaves (Between lo hi) (Given n) a = Repeat n a
+
+abbrev pub drawFor : PlainSender → Float → Float → Action → RepeatMode → Draw → Reaction
+drawFor s sent received a m draw = cond (drawFails m draw) (refuse 5 s) (take s sent received a (drawLeaves m draw a))
 
 -- "Otherwise where lookup gives none, the ack is refused with 22"
 unfoldable pub lookUp : PlainSender → Tree → Choice → Float → Float → Draw → Reaction
-unfolding drawFor
+unfolding drawFails drawLeaves
 lookUp s t nobody sent received draw = refuse 22 s
 lookUp s t (leaf i) sent received draw = drawFor s sent received (ruleAt t i .action) (s .start .«repeat_actions») draw
 
 -- "An ack's point is made from the start, the taken acks before it and the ack itself"
 abbrev pub ackPoint : PlainSender → Float → Float → Point
 ackPoint s sent received =
-    pointFrom (s .start) (map (λ (x : TakenAck). x .sent) (s .history) ++ (sent ∷ []))
-    (map (λ (x : TakenAck). x .received) (s .history) ++ (received ∷ []))
-    (map roundTrip (s .history) ++ (sub binary64 received sent ∷ []))
+    pointFrom (s .start) (sents s ++ (sent ∷ [])) (receiveds s ++ (received ∷ [])) (rounds s ++ (sub binary64 received sent ∷ []))
 
 -- "With a repeat pending its action is used, no lookup"
 unfoldable pub serve : PlainSender → Tree → Pending → Float → Float → Draw → Reaction

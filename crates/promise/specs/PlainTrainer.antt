@@ -1,7 +1,7 @@
 -- Document 01's plain trainer: its state, one step for each phase, and its record.
-use mathlib.Core.Bool.{Bool, true, false, not, _&&_, _||_, cond}
+use mathlib.Core.Bool.{not, _&&_, cond}
 use mathlib.Core.List.{List, [], _∷_, _++_}
-use Prim.Native.Nat.{ℕ, zero, suc, _+_}
+use Prim.Native.Nat.{ℕ, _+_}
 use lib.ListN.{length, getD}
 use lib.Dec.{eqb, ltb, leb}
 use lib.IntN.{pos}
@@ -9,10 +9,9 @@ use lib.Ieee.{Float, binary64, div, lt, le, ofInt}
 use Rattle.remy.specs.declared.action.Action.{Action}
 use Rattle.remy.specs.Cube as cube
 use Rattle.trainer.specs.declared.settings.Settings.{Settings}
-use Rattle.trainer.specs.Candidates.{candidatesOf, noCandidate}
-use Rattle.record.specs.Bytes.{bytesOf, flagByte}
-use Rattle.record.specs.Write.{floatBytes, actionBytes, settingsBytes, numbersBytes}
-use Rattle.promise.specs.PlainTree.{Tree, Rule, Choice, nobody, leaf, rootLeaf, ruleAt, split, setAction, mark, clearMarks, leaves, unmarkedLeaves, mostUsed, used, sum, countsTaken}
+use Rattle.promise.specs.PlainCandidates.{improvements, noCandidate}
+use Rattle.promise.specs.PlainTree.{Tree, Choice, nobody, leaf, rootLeaf, ruleAt, split, setAction, mark, clearMarks, leaves, unmarkedLeaves, mostUsed, used, sum, countsTaken}
+use Rattle.promise.specs.PlainRecord.{joined, byte, u16, u32, bits8, settingsPart, treePart}
 
 -- "the kept candidate with its score, or none"
 pub data Kept : Type 0 where
@@ -46,9 +45,9 @@ unfoldable pub beginRound : Settings → Tree → ℕ → ℕ → State
 unfolding beginLaterStage
 beginRound s t i round = cond (ltb round (s .rounds)) (at s t i round phase3) (beginLaterStage s t (i + 1))
 
--- "Start: default leaf, then begin stage 0", which no rule_splits is below: "i = 0 begin round"
+-- "Start: default leaf, then begin stage 0", which no rule_splits is below: "i = 0 begin round"; the leaf is the usual root
 abbrev pub start : Settings → State
-start s = beginRound s (rootLeaf (s .«default_action»)) 0 0
+start s = beginRound s (rootLeaf cube.usualEnds (s .«default_action»)) 0 0
 
 -- what a call answers: a refusal's number or 0, and the bytes that it saved
 pub record Outcome : Type 0 where
@@ -99,7 +98,7 @@ abbrev pub markAndGoOn : State → Tree → ℕ → State
 markAndGoOn st t i = at (st .settings) (mark t i) (st .stage) (st .round) phase3
 
 abbrev pub candidates : State → Tree → ℕ → List Action
-candidates st t i = candidatesOf (st .settings) (ruleAt t i .action)
+candidates st t i = improvements (st .settings) (ruleAt t i .action)
 
 -- "Phase 5 from k = 0; no candidates: mark, phase 3"
 unfoldable pub tryAll : State → Tree → ℕ → Float → State
@@ -150,15 +149,6 @@ scored st x phase6 = refuse 21 st
 scored st x phase7 = refuse 21 st
 
 -- ---- the record, "its state written as above"
--- action and mark: "record version 2 writes them for every node by rising number"
-unfoldable pub rulesBytes : List Rule → List ℕ
-rulesBytes [] = []
-rulesBytes (r ∷ rs) = actionBytes (r .action) ++ (flagByte (r .marked) ∷ rulesBytes rs)
-
--- "u16 split count; each split's node u16", then the nodes
-abbrev pub treeBytes : Tree → List ℕ
-treeBytes t = bytesOf 2 (length (t .splits)) ++ (numbersBytes (t .splits) ++ rulesBytes (t .rules))
-
 unfoldable pub keptNumber : Kept → ℕ
 keptNumber nothing = 65535
 keptNumber (just j y) = j
@@ -170,8 +160,8 @@ keptScore (just j y) = y
 -- "phase byte; u32 stage, round; u16 leaf; best 8; u16 k; u16 kept (65535 none); kept's score 8"
 abbrev pub stateBytes : State → ℕ → ℕ → Float → ℕ → Kept → List ℕ
 stateBytes st phase i best k kept =
-    phase ∷ (bytesOf 4 (st .stage) ++ (bytesOf 4 (st .round) ++ (bytesOf 2 i ++ (
-    floatBytes best ++ (bytesOf 2 k ++ (bytesOf 2 (keptNumber kept) ++ floatBytes (keptScore kept)))))))
+    joined
+    (byte phase ∷ u32 (st .stage) ∷ u32 (st .round) ∷ u16 i ∷ bits8 best ∷ u16 k ∷ u16 (keptNumber kept) ∷ bits8 (keptScore kept) ∷ [])
 
 -- "Fields a phase doesn't use are 0, kept 65535"
 unfoldable pub phaseBytes : State → Phase → List ℕ
@@ -186,11 +176,11 @@ phaseBytes st phase7 = stateBytes st 7 0 cube.zero 0 nothing
 
 -- the version byte, 2, and what follows it
 abbrev pub body : State → List ℕ
-body st = 2 ∷ (settingsBytes (st .settings) ++ (treeBytes (st .tree) ++ phaseBytes st (st .phase)))
+body st = joined (byte 2 ∷ settingsPart (st .settings) ∷ treePart (st .tree) ∷ phaseBytes st (st .phase) ∷ [])
 
 -- "u32 length of all that follows"
 abbrev pub recordBytes : State → List ℕ
-recordBytes st = bytesOf 4 (length (body st)) ++ body st
+recordBytes st = u32 (length (body st)) ++ body st
 
 -- ---- calls
 pub data Call : Type 0 where

@@ -1,11 +1,11 @@
--- Document 01's tree, in its own words: a list of the nodes that were split, and one rule a node.
-use mathlib.Core.Path.{_≡_}
+-- Document 01's tree, in its own words: a list of the nodes that were split, one rule a node, and the upper ends of its root.
 use mathlib.Core.Bool.{Bool, true, false, not, _&&_, _||_, cond}
 use mathlib.Core.List.{List, [], _∷_, _++_, map}
 use Prim.Native.Nat.{ℕ, zero, suc, _+_, _*_}
 use lib.ListN.{length, getD, set, replicate}
 use lib.Dec.{eqb, ltb, leb}
 use Rattle.remy.specs.declared.action.Action.{Action}
+use Rattle.remy.specs.declared.point.Point.{Point}
 use Rattle.remy.specs.Action.{actionOf}
 use Rattle.remy.specs.Cube as cube
 use lib.IntN.{pos}
@@ -18,13 +18,14 @@ pub record Rule : Type 0 where
 pub record Tree : Type 0 where
   pub splits : List ℕ
   pub rules : List Rule
+  pub ends : Point
 
 abbrev pub unmarked : Action → Rule
 unmarked a = record { action = a; marked = false }
 
 -- "Node 0 is the root leaf"
-abbrev pub rootLeaf : Action → Tree
-rootLeaf a = record { splits = []; rules = unmarked a ∷ [] }
+abbrev pub rootLeaf : Point → Action → Tree
+rootLeaf ends a = record { splits = []; rules = unmarked a ∷ []; ends = ends }
 
 -- "Split k (from 1) .. adds nodes 8k-7 to 8k"
 abbrev pub nodes : Tree → ℕ
@@ -43,13 +44,18 @@ ruleAt t i = getD (t .rules) i (unmarked (actionOf cube.zero (pos 0) cube.zero))
 
 -- "makes one leaf a parent and adds nodes .. in child order, each with the parent's action, unmarked"; "parents keep action and mark"
 abbrev pub split : Tree → ℕ → Tree
-split t i = record { splits = t .splits ++ (i ∷ []); rules = t .rules ++ replicate 8 (unmarked (ruleAt t i .action)) }
+split t i =
+    record { splits = t .splits ++ (i ∷ []); rules = t .rules ++ replicate 8 (unmarked (ruleAt t i .action)); ends = t .ends }
+
+-- the tree with other rules
+abbrev pub withRules : Tree → List Rule → Tree
+withRules t rules = record { splits = t .splits; rules = rules; ends = t .ends }
 
 abbrev pub setAction : Tree → ℕ → Action → Tree
-setAction t i a = record { splits = t .splits; rules = set (t .rules) i (record { action = a; marked = ruleAt t i .marked }) }
+setAction t i a = withRules t (set (t .rules) i (record { action = a; marked = ruleAt t i .marked }))
 
 abbrev pub mark : Tree → ℕ → Tree
-mark t i = record { splits = t .splits; rules = set (t .rules) i (record { action = ruleAt t i .action; marked = true }) }
+mark t i = withRules t (set (t .rules) i (record { action = ruleAt t i .action; marked = true }))
 
 -- i, i + 1, .. of n numbers
 unfoldable pub from : ℕ → ℕ → List ℕ
@@ -61,7 +67,7 @@ abbrev pub clearedRule : Tree → ℕ → Rule
 clearedRule t i = cond (isLeaf t i) (unmarked (ruleAt t i .action)) (ruleAt t i)
 
 abbrev pub clearMarks : Tree → Tree
-clearMarks t = record { splits = t .splits; rules = map (clearedRule t) (from 0 (nodes t)) }
+clearMarks t = withRules t (map (clearedRule t) (from 0 (nodes t)))
 
 unfoldable pub those : (ℕ → Bool) → List ℕ → List ℕ
 those keep [] = []

@@ -1,20 +1,15 @@
 -- Demand 3's lists on one sender: acks, sends and ticks, each getting what the last one left, and what is compared of each.
 use mathlib.Core.Path.{_≡_}
-use mathlib.Core.Bool.{Bool, true, false, not, _&&_}
+use mathlib.Core.Bool.{true, false}
 use mathlib.Core.List.{List, [], _∷_}
 use Prim.Native.Nat.{ℕ}
-use lib.Dec.{leb}
-use lib.Ieee.{Float}
 use Rattle.remy.specs.declared.action.Action.{Action}
 use Rattle.remy.specs.declared.point.Point.{Point}
 use Rattle.remy.specs.Action.{windowOf}
-use Rattle.remy.specs.Cube.{usualEnds, rootOf, containsOf}
+use Rattle.remy.specs.Cube.{rootOf, containsOf}
 use Rattle.rule_tree.specs.declared.RuleTree.{RuleTree}
 use Rattle.sender.specs.declared.Pending.the-variants.{Idle, Repeat}
-use Rattle.sender.specs.declared.RepeatMode.{RepeatMode}
-use Rattle.sender.specs.declared.RepeatMode.the-variants.{Off, Always, Between}
 use Rattle.sender.specs.declared.Draw.{Draw}
-use Rattle.sender.specs.declared.Draw.the-variants.{Absent, Given}
 use Rattle.sender.specs.declared.Sender.{Sender}
 use Rattle.sender.specs.declared.Held.{Held}
 use Rattle.sender.specs.declared.Reply.{Reply}
@@ -29,18 +24,21 @@ pub record SenderEvent : Type 0 where
   pub refused : ℕ
   pub window : ℕ
 
+abbrev pub event : ℕ → ℕ → SenderEvent
+event refused window = record { refused = refused; window = window }
+
 -- ---- the sender's calls, as their contracts have them
 pub record SenderStep : Type 0 where
   pub sender : Sender
   pub event : SenderEvent
 
 abbrev pub taken : Held → SenderStep
-taken h = record { sender = h .sender; event = record { refused = 0; window = h .window } }
+taken h = record { sender = h .sender; event = event 0 (h .window) }
 
 -- "A refusal returns its number only; .. senders .. stay"
 unfoldable pub afterReply : Sender → Reply → SenderStep
 afterReply s (reply.Taken h) = taken h
-afterReply s (reply.Refused k) = record { sender = s; event = record { refused = k; window = 0 } }
+afterReply s (reply.Refused k) = record { sender = s; event = event k 0 }
 
 unfoldable pub senderStep : Sender → SenderCall RuleTree → SenderStep
 unfolding afterReply
@@ -66,21 +64,13 @@ plainStart s = record { start = s; history = []; standing = s .«last_send» }
 unfoldable pub plainSenderEvents : plain.PlainSender → List (SenderCall Tree) → List SenderEvent
 plainSenderEvents s [] = []
 plainSenderEvents s (c ∷ cs) =
-    let o = plain.react s c in
-    record { refused = o .refused; window = o .window } ∷ plainSenderEvents (o .sender) cs
+    let o = plain.react s c in event (o .refused) (o .window) ∷ plainSenderEvents (o .sender) cs
 
 unfoldable pub plainSenderEnd : plain.PlainSender → List (SenderCall Tree) → plain.PlainSender
 plainSenderEnd s [] = s
 plainSenderEnd s (c ∷ cs) = plainSenderEnd (plain.react s c .sender) cs
 
 -- ---- what an ack at admitted moments does, s being the plain sender before it and p its point
--- "5 a due draw absent or outside lo..=hi (one not due is ignored; off and always n, none is due)"
-unfoldable pub drawFails : RepeatMode → Draw → Bool
-drawFails Off draw = false
-drawFails (Always n) draw = false
-drawFails (Between lo hi) Absent = true
-drawFails (Between lo hi) (Given n) = not (leb lo n && leb n hi)
-
 -- leaf i is the one whose cube holds p
 pub record OneLeaf (t : Tree) (p : Point) (i : ℕ) : Type 0 where
   pub leaf : isLeaf t i ≡ true
@@ -95,19 +85,19 @@ pub record SetBy (s : plain.PlainSender) (a : Action) (o : SenderStep) : Type 0 
   pub answer : o .event .window ≡ plain.shown (s .standing) (windowOf a (plain.windowHeld s))
 
 -- no repeat is pending and the point is outside the root box
-abbrev pub Outside : plain.PlainSender → Point → Type 0
-Outside s p = (plain.pendingNow s ≡ Idle) × (containsOf (rootOf usualEnds) p ≡ false)
+abbrev pub Outside : plain.PlainSender → Tree → Point → Type 0
+Outside s t p = (plain.pendingNow s ≡ Idle) × (containsOf (rootOf (t .ends)) p ≡ false)
 
 -- no repeat is pending, the point is in the root box, and a due draw is absent or outside
-abbrev pub Undrawn : plain.PlainSender → Point → Draw → Type 0
-Undrawn s p draw =
+abbrev pub Undrawn : plain.PlainSender → Tree → Point → Draw → Type 0
+Undrawn s t p draw =
     (plain.pendingNow s ≡ Idle)
-    × ((containsOf (rootOf usualEnds) p ≡ true) × (drawFails (s .start .«repeat_actions») draw ≡ true))
+    × ((containsOf (rootOf (t .ends)) p ≡ true) × (plain.drawFails (s .start .«repeat_actions») draw ≡ true))
 
 pub record AckDoes (s : plain.PlainSender) (t : Tree) (p : Point) (draw : Draw) (o : SenderStep) : Type 0 where
-  pub refused-22 : (o .event .refused ≡ 22 → Outside s p) × (Outside s p → o .event .refused ≡ 22)
-  pub refused-5 : (o .event .refused ≡ 5 → Undrawn s p draw) × (Undrawn s p draw → o .event .refused ≡ 5)
+  pub refused-22 : (o .event .refused ≡ 22 → Outside s t p) × (Outside s t p → o .event .refused ≡ 22)
+  pub refused-5 : (o .event .refused ≡ 5 → Undrawn s t p draw) × (Undrawn s t p draw → o .event .refused ≡ 5)
   pub repeated : (n : ℕ) (a : Action) → plain.pendingNow s ≡ Repeat n a → SetBy s a o
   pub looked :
-      plain.pendingNow s ≡ Idle → containsOf (rootOf usualEnds) p ≡ true → drawFails (s .start .«repeat_actions») draw ≡ false
+      plain.pendingNow s ≡ Idle → containsOf (rootOf (t .ends)) p ≡ true → plain.drawFails (s .start .«repeat_actions») draw ≡ false
       → (i : ℕ) × (OneLeaf t p i × SetBy s (ruleAt t i .action) o)

@@ -1,7 +1,7 @@
 // A short script of calls with the settings of the Rust's default trainer. The words that are compared, one a line.
 use libc::STDOUT_FILENO;
 
-const SCRIPT: [u64; 53] = [
+const SCRIPT: [u64; 76] = [
     // rule_splits, rounds, multiplier, drill
     12,
     2,
@@ -27,10 +27,33 @@ const SCRIPT: [u64; 53] = [
     0x3ff0_0000_0000_0000,
     1,
     0x3f68_9374_bc6a_7efa,
+    // a fresh sender
+    0,
     // repeats: a draw of 0..=3
     2,
     0,
     3,
+    // what a sender handed in would hold
+    0,
+    0,
+    0,
+    0,
+    0,
+    0,
+    0,
+    0,
+    0,
+    0,
+    0,
+    0,
+    0,
+    0,
+    0,
+    0,
+    0,
+    0,
+    0,
+    0,
     // counts: the leaf is taken
     1,
     1,
@@ -42,12 +65,11 @@ const SCRIPT: [u64; 53] = [
     // a score
     2,
     0x3fe0_0000_0000_0000,
-    // a reload by 200 bytes
+    // a reload by two bytes: refused with 9
     3,
-    200,
-    // a reload by 171 bytes: refused with 9
-    3,
-    171,
+    2,
+    7,
+    8,
     // an ack with the draw 2
     4,
     0x3ff0_0000_0000_0000,
@@ -73,6 +95,9 @@ const SCRIPT: [u64; 53] = [
     0,
     0,
     0x408f_4000_0000_0000,
+    // a reload by a buffer that is too long: here the list ends
+    3,
+    32769,
 ];
 
 fn print_words(words: &[u64]) {

@@ -5,6 +5,7 @@ use mathlib.Core.List.{List, [], _∷_, _++_}
 use mathlib.Core.Logic.{⊎-elim}
 use Prim.Native.Nat.{ℕ, _+_, _-_, _<_, _≤_, min}
 use native.Mathlib.Omega.{arith}
+use borrow.Author.Tests.{ne-eqb}
 use lib.ListN.{length, take, drop, replicate, length-drop, drop-of-length-le}
 use lib.Seq.{drop-drop, take-all}
 use Rattle.trainer.specs.declared.settings.Settings.{Settings}
@@ -18,11 +19,12 @@ use Rattle.sender.specs.declared.RepeatMode.{RepeatMode}
 use Rattle.sender.specs.declared.Sender.{Sender}
 use Rattle.sender.specs.declared.Made.{Made}
 use Rattle.sender.specs.declared.Made.the-variants as made
-use Rattle.sender.specs.Sender.{modeHolds, freshSender, newOf}
+use Rattle.sender.specs.Sender.{newOf}
 use Rattle.runs.specs.declared.State.{State}
-use Rattle.runs.specs.Script.{itemOf, itemsOf, sizeOf, settings, mode, callsOf}
-use Rattle.runs.specs.Ran.{questionWords, endWords, ranFrom, ranWith, ranOf}
-use Rattle.runs.specs.Turn.{Puts, turnOf, Makes, wholeSize}
+use Rattle.runs.specs.Script.{word, itemOf, itemsOf, sizeOf, settings, mode, handedIn, callsOf}
+use Rattle.runs.specs.SenderWords.{senderWords}
+use Rattle.runs.specs.Ran.{questionWords, endWords, ranFrom, madeOf, ranMade, ranWith, ranOf}
+use Rattle.runs.specs.Turn.{Puts, First, turnOf, Makes, wholeSize}
 use Rattle.runs.proofs.Putting.{lt-or-le, fits, then, spelt, Rest}
 use Rattle.runs.proofs.Reading.{stands, stands-size, ended, next-call}
 use Rattle.runs.proofs.Turning.{ran-more}
@@ -69,13 +71,14 @@ module _ (Whole : ℕ → List ℕ → Type 0) (script : List ℕ) (r : State) (
         (then out (r .at) h (m .puts) w))
 
   -- no call more
-  finished : size ≤ 0 → endWords (r .trainer) (saveOf (r .trainer) (replicate 16388 0)) ≡ wordsFrom script r p
+  finished : size ≤ 0 → endWords (r .trainer) (saveOf (r .trainer) (replicate 16388 0)) ++ senderWords (r .sender) ≡ wordsFrom script r p
   unfolding ranFrom
   finished h = ap (ranFrom (r .trainer) (r .sender)) (sym (ended (length script) (drop p script) size is h))
 
-  pub end : (out : List ℕ) {n : ℕ} {after : List ℕ} → size ≤ 0 → Puts out (r .at) (endWords (r .trainer) (saveOf (r .trainer) (replicate 16388 0))) n after
+  pub end : (out : List ℕ) {n m : ℕ} {mid after : List ℕ} → size ≤ 0 → r .at ≤ length out
+      → Puts out (r .at) (endWords (r .trainer) (saveOf (r .trainer) (replicate 16388 0))) m mid → Puts mid m (senderWords (r .sender)) n after
       → Rest Whole out (r .at) (wordsFrom script r p) → Whole n after
-  end out {n} {after} h w k = k n after (spelt out (r .at) (finished h) w)
+  end out {n} {m} {mid} {after} h l w u k = k n after (spelt out (r .at) (finished h) (then out (r .at) l w u))
 
 -- ---- where the loop stands
 -- the script from a place on, as it is lent
@@ -99,8 +102,16 @@ stood-first script out r p l h e =
 
 module _ {Whole : ℕ → List ℕ → Type 0} (script old out : List ℕ) (r : State) (p size : ℕ) (s : Stood Whole script old out r p size) where
   module _ (some : 0 < size) where
-    pub ready : (r .at ≤ length out) × ((size ≡ sizeOf (lentFrom script p)) × (size ≤ length (lentFrom script p)))
-    ready = rw (lent-is script p) (s .fit, (size-is Whole script r p size (s .sized) some, size-within Whole script r p size (s .sized) some))
+    pub ready : (r .at ≤ length out) × First (lentFrom script p) size
+    ready =
+        rw (lent-is script p) (
+          s .fit,
+          record {
+            sized = size-is Whole script r p size (s .sized) some;
+            some = some;
+            within = size-within Whole script r p size (s .sized) some;
+          },
+        )
 
     pub more : p + size ≤ length script
     more = past Whole script r p size (s .sized) some (s .place)
@@ -118,23 +129,24 @@ module _ {Whole : ℕ → List ℕ → Type 0} (script old out : List ℕ) (r : 
           rest = turn Whole script r p size (s .sized) some out q mid (s .fit) (rw (lent-is script p) at m) (s .rest);
         }
 
-  pub stood-last : {n : ℕ} {after : List ℕ} → size ≤ 0 → Puts out (r .at) (endWords (r .trainer) (saveOf (r .trainer) (replicate 16388 0))) n after
+  pub stood-last : {n m : ℕ} {mid after : List ℕ} → size ≤ 0
+      → Puts out (r .at) (endWords (r .trainer) (saveOf (r .trainer) (replicate 16388 0))) m mid → Puts mid m (senderWords (r .sender)) n after
       → Whole n after
-  stood-last h w = end Whole script r p size (s .sized) out h w (s .rest)
+  stood-last h w u = end Whole script r p size (s .sized) out h (s .fit) w u (s .rest)
 
 -- ---- the start
-from-first : (script : List ℕ) → drop (min 22 (length script)) script ≡ drop 22 script
-from-first script = ⊎-elim inside past (lt-or-le 22 (length script))
+from-first : (script : List ℕ) → drop (min 43 (length script)) script ≡ drop 43 script
+from-first script = ⊎-elim inside past (lt-or-le 43 (length script))
   where
-    inside : 22 < length script → drop (min 22 (length script)) script ≡ drop 22 script
-    inside h = ap (λ (k : ℕ). drop k script) (let e : min 22 (length script) ≡ 22 = omega arith in e)
+    inside : 43 < length script → drop (min 43 (length script)) script ≡ drop 43 script
+    inside h = ap (λ (k : ℕ). drop k script) (let e : min 43 (length script) ≡ 43 = omega arith in e)
 
-    past : length script ≤ 22 → drop (min 22 (length script)) script ≡ drop 22 script
-    past h = drop-of-length-le script {i = min 22 (length script)} (omega arith) ∙ sym (drop-of-length-le script h)
+    past : length script ≤ 43 → drop (min 43 (length script)) script ≡ drop 43 script
+    past h = drop-of-length-le script {i = min 43 (length script)} (omega arith) ∙ sym (drop-of-length-le script h)
 
 -- 0, the question, and the calls
 pub begun : (t : Trainer) (s : Sender) (script out : List ℕ) (p : ℕ) {q : Question} {n at m : ℕ} {one two after : List ℕ}
-    → p ≡ min 22 (length script) → q ≡ questionOf t → Puts out 0 (0 ∷ []) n one → Puts one n (questionWords q) at two
+    → p ≡ min 43 (length script) → q ≡ questionOf t → Puts out 0 (0 ∷ []) n one → Puts one n (questionWords q) at two
     → Puts two at (wordsFrom script (record { trainer = t; sender = s; at = at }) p) m after
     → Puts out 0 (0 ∷ (questionWords (questionOf t) ++ ranFrom t s (callsOf script))) m after
 begun t s script out p {n = n} {at = at} {one = one} {two = two} e f a b c =
@@ -161,41 +173,30 @@ start-not s {a} e f = go (settingsHold s) refl
     go true h = absurd (f (ap (λ (x : Answered). x .refused) e ∙ starts s true h))
     go false h = h
 
-makes : (m : RepeatMode) (b : Bool) → modeHolds m ≡ b → newOf m ≡ cond b (made.Ready (freshSender m)) (made.Refused 2)
-unfolding newOf
-makes m b e = rw e
-
-pub ready-mode : (m : RepeatMode) (s : Sender) {x : Made} → x ≡ newOf m → x ≡ made.Ready s → (modeHolds m ≡ true) × (s ≡ freshSender m)
-ready-mode m s {x} e f = go (modeHolds m) refl
-  where
-    go : (b : Bool) → modeHolds m ≡ b → (modeHolds m ≡ true) × (s ≡ freshSender m)
-    go true h = let z = makes m true h in (h, cc)
-    go false h = absurd (let z = makes m false h in let y : _≡_ {A = ℕ} 0 1 = cc in omega arith)
-
-pub refused-mode : (m : RepeatMode) (k : ℕ) {x : Made} → x ≡ newOf m → x ≡ made.Refused k → modeHolds m ≡ false
-refused-mode m k {x} e f = go (modeHolds m) refl
-  where
-    go : (b : Bool) → modeHolds m ≡ b → modeHolds m ≡ false
-    go true h = absurd (let z = makes m true h in let y : _≡_ {A = ℕ} 0 1 = cc in omega arith)
-    go false h = h
-
 module _ (script out : List ℕ) {a : Answered} {g : Settings} (settled : g ≡ settings script) (started : a ≡ startOf g) where
   module _ {n : ℕ} {after : List ℕ} where
     pub refuses-settings : (a .refused ≡ 0 → ⊥) → Puts out 0 (2 ∷ []) n after → Puts out 0 (ranOf script) n after
     unfolding ranWith
     refuses-settings f w = rw (start-not (settings script) (started ∙ ap startOf settled) f) w
 
-    pub refuses-mode : {m : RepeatMode} {x : Made} (k : ℕ) → a .refused ≡ 0 → m ≡ mode script → x ≡ newOf m → x ≡ made.Refused k
-        → Puts out 0 (2 ∷ []) n after → Puts out 0 (ranOf script) n after
-    unfolding ranWith
-    refuses-mode k f e y z w =
-        rw (start-holds (settings script) (started ∙ ap startOf settled) f, refused-mode (mode script) k (y ∙ ap newOf e) z) w
+    pub refuses-sender : {x : Made} (k : ℕ) → a .refused ≡ 0 → x ≡ madeOf script → x ≡ made.Refused k → Puts out 0 (2 ∷ []) n after
+        → Puts out 0 (ranOf script) n after
+    unfolding ranWith ranMade
+    refuses-sender k f y z w = rw (start-holds (settings script) (started ∙ ap startOf settled) f, ← y, z) w
 
-    pub runs-all : {m : RepeatMode} {x : Made} (s : Sender) → a .refused ≡ 0 → m ≡ mode script → x ≡ newOf m → x ≡ made.Ready s
+    pub runs-all : {x : Made} (s : Sender) → a .refused ≡ 0 → x ≡ madeOf script → x ≡ made.Ready s
         → Puts out 0 (0 ∷ (questionWords (questionOf (a .trainer)) ++ ranFrom (a .trainer) s (callsOf script))) n after
         → Puts out 0 (ranOf script) n after
-    unfolding ranWith
-    runs-all s f e y z w =
-        let p = ready-mode (mode script) s (y ∙ ap newOf e) z in
-        rw (start-holds (settings script) (started ∙ ap startOf settled) f, p .0)
-        (rw (p .1, started ∙ ap startOf settled) at w)
+    unfolding ranWith ranMade
+    runs-all s f y z w =
+        rw (start-holds (settings script) (started ∙ ap startOf settled) f, ← y, z) (rw (started ∙ ap startOf settled) at w)
+
+-- ---- the sender of the start
+module _ (script : List ℕ) {x : ℕ} (is : x ≡ word script 19) where
+  pub new-sender : {m : RepeatMode} {r : Made} → x ≡ 0 → m ≡ mode script → r ≡ newOf m → r ≡ madeOf script
+  unfolding madeOf
+  new-sender e f g = rw (← is, e) (g ∙ ap newOf f)
+
+  pub given-sender : {s : Sender} → (x ≡ 0 → ⊥) → s ≡ handedIn script → made.Ready s ≡ madeOf script
+  unfolding madeOf
+  given-sender e f = rw (← is, ne-eqb x 0 e) (ap made.Ready f)

@@ -21,8 +21,9 @@ use Rattle.rule_tree.specs.declared.Looked.the-variants as looked
 use Rattle.rule_tree.proofs.Looked.{the-type}
 use Rattle.trainer.specs.declared.Question.{Question}
 use Rattle.trainer.specs.declared.Question.the-variants as question
-use Rattle.record.proofs.Stores.{sets-append}
-use Rattle.runs.specs.Compared.{bits, actionWords, laid}
+use Rattle.wire.proofs.Stores.{sets-append}
+use Rattle.runs.specs.SenderWords.{bits, actionWords}
+use Rattle.runs.specs.Compared.{laid}
 use Rattle.runs.specs.Ran.{questionWords, lookedWords, putWords, placeAfter}
 use Rattle.runs.specs.Turn.{Puts}
 
@@ -79,6 +80,13 @@ module _ (out : List ℕ) (at : ℕ) where
   module _ {words : List ℕ} {next : ℕ} {after : List ℕ} (p : Puts out at words next after) where
     pub fits : next ≤ length out
     fits = let e = p .place in omega arith
+
+    pub carried : length after ≡ length out → next ≤ length after
+    carried l = let e = fits in omega arith
+
+    -- there is as much room as before
+    pub room : at ≤ length out → next ≤ length after
+    room h = let e = p .place in omega (arith, ap length (p .laid ∙ put-sets words out at h) ∙ length-sets out at words)
 
   pub spelt : {a b : List ℕ} {next : ℕ} {after : List ℕ} → a ≡ b → Puts out at a next after → Puts out at b next after
   spelt {next} {after} e p = subst (λ (words : List ℕ). Puts out at words next after) e p

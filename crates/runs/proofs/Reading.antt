@@ -3,11 +3,11 @@ use mathlib.Core.Path.{_≡_, refl, sym, ap, _∙_}
 use mathlib.Core.Bool.{Bool, true, false, cond, _&&_}
 use mathlib.Core.List.{List, [], _∷_}
 use mathlib.Core.Logic.{⊎-elim}
-use Prim.Native.Nat.{ℕ, zero, suc, _+_, _-_, _%_, _<_, _≤_}
+use Prim.Native.Nat.{ℕ, zero, suc, _+_, _-_, _<_, _≤_}
 use native.Mathlib.Omega.{arith}
-use borrow.Author.Tests.{ltb-true, ltb-false, leb-true, le-leb, lt-leb, ne-eqb}
+use borrow.Author.Tests.{ltb-true, ltb-false, leb-true, leb-false, le-leb, lt-leb, ne-eqb}
 use lib.Dec.{eqb, ltb, leb}
-use lib.ListN.{length, take, drop, replicate, length-drop}
+use lib.ListN.{length, take, drop, length-take, length-drop}
 use lib.Ieee.{Float}
 use lib.IntN.{ℤ}
 use mir.Syntax.{w32}
@@ -19,11 +19,10 @@ use Rattle.rule_tree.specs.declared.RuleTree.{RuleTree}
 use Rattle.trainer.specs.declared.settings.Settings.{Settings}
 use Rattle.sender.specs.declared.RepeatMode.the-variants.{Off, Always, Between}
 use Rattle.sender.specs.declared.Draw.{Draw}
-use Rattle.sender.specs.Run.{drawFrom}
 use Rattle.promise.specs.PlainTrainer.{counts, score, reload}
 use Rattle.sender.specs.SenderCall as runs
-use Rattle.runs.specs.Script.{Item, train, lookup, word, number, float, action, settings, mode, sizeOf, itemOf, wholeOf, itemsOf}
-use Rattle.runs.specs.Turn.{fixedSize, wholeSize, trainerCall, senderCall}
+use Rattle.runs.specs.Script.{Item, train, lookup, word, number, float, action, settings, mode, drawOf, bytesOf, sizeOf, itemOf, wholeOf, itemsOf}
+use Rattle.runs.specs.Turn.{First, fixedSize, listedSize, wholeSize, trainerCall, senderCall}
 use Rattle.runs.proofs.Putting.{lt-or-le}
 
 -- ---- the settings and the mode
@@ -62,16 +61,16 @@ settings-read ws a b c d e f g h k =
       «default_action» = k j;
     }
 
-module _ (ws : List ℕ) (kind : ℕ) (is : kind ≡ word ws 19) where
+module _ (ws : List ℕ) (kind : ℕ) (is : kind ≡ word ws 20) where
   pub mode-off : kind ≡ 0 → Off ≡ mode ws
   unfolding mode
   mode-off e = rw (← is, e)
 
-  pub mode-always : {n : ℕ} → kind ≡ 1 → n ≡ number ws 20 → Always n ≡ mode ws
+  pub mode-always : {n : ℕ} → kind ≡ 1 → n ≡ number ws 21 → Always n ≡ mode ws
   unfolding mode
   mode-always e f = rw (← is, e, f)
 
-  pub mode-between : {lo hi : ℕ} → (kind ≡ 0 → ⊥) → (kind ≡ 1 → ⊥) → lo ≡ number ws 20 → hi ≡ number ws 21 → Between lo hi ≡ mode ws
+  pub mode-between : {lo hi : ℕ} → (kind ≡ 0 → ⊥) → (kind ≡ 1 → ⊥) → lo ≡ number ws 21 → hi ≡ number ws 22 → Between lo hi ≡ mode ws
   unfolding mode
   mode-between a b f g = rw (← is, ne-eqb kind 0 a, ne-eqb kind 1 b, f, g)
 
@@ -79,30 +78,35 @@ module _ (ws : List ℕ) (kind : ℕ) (is : kind ≡ word ws 19) where
 pub fixed-is : (code k : ℕ) → code ≡ k → fixedSize k ≡ fixedSize code
 fixed-is code k e = ap fixedSize (sym e)
 
-pub fixed-none : (code : ℕ) → (code ≡ 2 → ⊥) → (code ≡ 3 → ⊥) → (code ≡ 4 → ⊥) → (code ≡ 5 → ⊥) → (code ≡ 6 → ⊥) → (code ≡ 8 → ⊥)
-    → 0 ≡ fixedSize code
+pub fixed-none : (code : ℕ) → (code ≡ 2 → ⊥) → (code ≡ 4 → ⊥) → (code ≡ 5 → ⊥) → (code ≡ 6 → ⊥) → (code ≡ 8 → ⊥) → 0 ≡ fixedSize code
 unfolding fixedSize
-fixed-none code a b c d e f =
-    rw (ne-eqb code 2 a, ne-eqb code 3 b, ne-eqb code 4 c, ne-eqb code 5 d, ne-eqb code 6 e, ne-eqb code 8 f)
-
-pub fixed-two : (code : ℕ) → 2 ≤ code → code < 4 → 2 ≡ fixedSize code
-unfolding fixedSize
-fixed-two code a b = ⊎-elim (λ h. fixed-is code 2 (let l : code < 3 = h in omega arith)) (λ h. fixed-is code 3 (let l : 3 ≤ code = h in omega arith)) (lt-or-le code 3)
+fixed-none code a c d e f = rw (ne-eqb code 2 a, ne-eqb code 4 c, ne-eqb code 5 d, ne-eqb code 6 e, ne-eqb code 8 f)
 
 module _ (ws : List ℕ) where
   pub size-counts : word ws 0 ≡ 1 → sizeOf ws ≡ 2 + word ws 1
   unfolding sizeOf
   size-counts e = rw e
 
-  pub size-fixed : (word ws 0 ≡ 1 → ⊥) → sizeOf ws ≡ fixedSize (word ws 0)
+  size-none : word ws 0 ≡ 0 → sizeOf ws ≡ 0
+  unfolding sizeOf
+  size-none e = rw e
+
+  size-reload : word ws 0 ≡ 3 → sizeOf ws ≡ cond (leb (word ws 1) 32768) (2 + word ws 1) 0
+  unfolding sizeOf
+  size-reload e = rw e
+
+  size-short : word ws 0 ≡ 3 → word ws 1 ≤ 32768 → sizeOf ws ≡ 2 + word ws 1
+  size-short e h = size-reload e ∙ ap (λ (b : Bool). cond b (2 + word ws 1) 0) (le-leb (word ws 1) 32768 h)
+
+  size-long : word ws 0 ≡ 3 → 32768 < word ws 1 → sizeOf ws ≡ 0
+  size-long e h = size-reload e ∙ ap (λ (b : Bool). cond b (2 + word ws 1) 0) (lt-leb (word ws 1) 32768 h)
+
+  size-fixed : (word ws 0 ≡ 1 → ⊥) → (word ws 0 ≡ 3 → ⊥) → sizeOf ws ≡ fixedSize (word ws 0)
   unfolding sizeOf fixedSize
-  size-fixed e = rw (ne-eqb (word ws 0) 1 e)
+  size-fixed e f = rw (ne-eqb (word ws 0) 1 e, ne-eqb (word ws 0) 3 f)
 
-  pub counts-size : {code n : ℕ} → code ≡ word ws 0 → code ≡ 1 → n ≡ word ws 1 → sizeOf ws ≡ n + 2
-  counts-size e f g = let h = size-counts (sym e ∙ f) in omega arith
-
-  pub other-size : {code n : ℕ} → code ≡ word ws 0 → (code ≡ 1 → ⊥) → n ≡ fixedSize code → sizeOf ws ≡ n
-  other-size e f g = size-fixed (λ h. f (e ∙ h)) ∙ ap fixedSize (sym e) ∙ sym g
+  pub other-size : {code n : ℕ} → code ≡ word ws 0 → (code ≡ 1 → ⊥) → (code ≡ 3 → ⊥) → n ≡ fixedSize code → sizeOf ws ≡ n
+  other-size e f k g = size-fixed (λ h. f (e ∙ h)) (λ h. k (e ∙ h)) ∙ ap fixedSize (sym e) ∙ sym g
 
   both : (b : Bool) → ltb 0 (sizeOf ws) ≡ b → leb (sizeOf ws) (length ws) ≡ true → wholeSize ws ≡ sizeOf ws
   unfolding wholeSize wholeOf
@@ -119,6 +123,30 @@ module _ (ws : List ℕ) where
 
   pub cut-off : (n : ℕ) → sizeOf ws ≡ n → length ws < n → 0 ≡ wholeSize ws
   cut-off n e h = cut (ltb 0 (sizeOf ws)) refl (lt-leb (sizeOf ws) (length ws) (omega arith))
+
+  -- a call that lists its words
+  listed-whole : (b : Bool) → leb (2 + word ws 1) (length ws) ≡ b → sizeOf ws ≡ 2 + word ws 1 → listedSize ws ≡ wholeSize ws
+  unfolding listedSize
+  listed-whole true l e = rw l (whole-is (2 + word ws 1) e (leb-true (2 + word ws 1) (length ws) l))
+  listed-whole false l e = rw l (cut-off (2 + word ws 1) e (leb-false (2 + word ws 1) (length ws) l))
+
+  pub lists-counts : {code n : ℕ} → code ≡ word ws 0 → code ≡ 1 → n ≡ listedSize ws → n ≡ wholeSize ws
+  lists-counts e f g = g ∙ listed-whole (leb (2 + word ws 1) (length ws)) refl (size-counts (sym e ∙ f))
+
+  pub lists-bytes : {code x n : ℕ} → code ≡ word ws 0 → code ≡ 3 → x ≡ word ws 1 → x ≤ 32768 → n ≡ listedSize ws → n ≡ wholeSize ws
+  lists-bytes e f y h g = g ∙ listed-whole (leb (2 + word ws 1) (length ws)) refl (size-short (sym e ∙ f) (omega arith))
+
+  pub too-long : {code x : ℕ} → code ≡ word ws 0 → code ≡ 3 → x ≡ word ws 1 → 32768 < x → 0 ≡ wholeSize ws
+  too-long e f y h = whole-is 0 (size-long (sym e ∙ f) (omega arith)) (omega arith)
+
+  module _ {n : ℕ} (is : n ≡ word ws 1) where
+    pub listed-none : length ws < n + 2 → 0 ≡ listedSize ws
+    unfolding listedSize
+    listed-none h = rw (lt-leb (2 + word ws 1) (length ws) (omega arith))
+
+    pub listed-all : n + 2 ≤ length ws → n + 2 ≡ listedSize ws
+    unfolding listedSize
+    listed-all h = rw (le-leb (2 + word ws 1) (length ws) (omega arith)) (omega arith)
 
 -- ---- a whole call
 pub record Stands (ws : List ℕ) : Type 0 where
@@ -162,11 +190,34 @@ module _ (ws : List ℕ) (code : ℕ) (is : code ≡ word ws 0) where
   unfolding trainerCall
   call-score e f = rw (← is, e, f)
 
-  pub call-reload : {x n : ℕ} → (code ≡ 1 → ⊥) → (code ≡ 2 → ⊥) → x ≡ word ws 1 → n ≡ x % 32768 → reload (replicate n 0) ≡ trainerCall ws
-  unfolding trainerCall
-  call-reload a b f g = rw (← is, ne-eqb code 1 a, ne-eqb code 2 b, g, f)
+  -- a reload: code 3, as a call of code 0 has no words
+  is-three : {size : ℕ} → (code ≡ 1 → ⊥) → (code ≡ 2 → ⊥) → First ws size → word ws 0 < 4 → word ws 0 ≡ 3
+  is-three {size} a b f h =
+      let no-code : word ws 0 ≡ 0 → ⊥ = λ e. let z = f .sized ∙ size-none ws e in let w = f .some in omega arith in
+      let x : code ≡ 0 → ⊥ = λ e. no-code (sym is ∙ e) in
+      omega arith
 
-  pub call-ack : (t : RuleTree) {x y : Float} {d : Draw} {z : ℕ} → code ≡ 4 → x ≡ float ws 1 → y ≡ float ws 2 → z ≡ word ws 3 → d ≡ drawFrom z
+  module _ {size : ℕ} (a : code ≡ 1 → ⊥) (b : code ≡ 2 → ⊥) (f : First ws size) (h : word ws 0 < 4) where
+    pub reload-size : (size ≡ 2 + word ws 1) × (word ws 1 ≤ 32768)
+    reload-size = go (leb (word ws 1) 32768) refl
+      where
+        three : word ws 0 ≡ 3
+        three = is-three a b f h
+
+        go : (c : Bool) → leb (word ws 1) 32768 ≡ c → (size ≡ 2 + word ws 1) × (word ws 1 ≤ 32768)
+        go true e = let l = leb-true (word ws 1) 32768 e in (f .sized ∙ size-short ws three l, l)
+        go false e = absurd (let z = f .sized ∙ size-long ws three (leb-false (word ws 1) 32768 e) in let w = f .some in omega arith)
+
+    pub reload-few : length (take (size - 2) (drop 2 ws)) ≤ 32768
+    reload-few = let z = reload-size in rw length-take (omega (arith, z .0, z .1))
+
+    pub call-reload : {bytes : List ℕ} → bytes ≡ take (size - 2) (drop 2 ws) → reload (bytesOf bytes) ≡ trainerCall ws
+    unfolding trainerCall
+    call-reload g =
+        let n : size - 2 ≡ word ws 1 = let z = reload-size .0 in omega arith in
+        rw (← is, ne-eqb code 1 a, ne-eqb code 2 b, g, n)
+
+  pub call-ack : (t : RuleTree) {x y : Float} {d : Draw} {z : ℕ} → code ≡ 4 → x ≡ float ws 1 → y ≡ float ws 2 → z ≡ word ws 3 → d ≡ drawOf z
       → runs.ack t x y d ≡ senderCall t ws
   unfolding senderCall
   call-ack t e f g h k = rw (← is, e, f, g, k, h)

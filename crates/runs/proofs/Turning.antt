@@ -3,7 +3,7 @@ use mathlib.Core.Path.{_≡_, refl, sym, ap, subst, _∙_}
 use mathlib.Core.Bool.{Bool, true, false, cond}
 use mathlib.Core.List.{List, [], _∷_, _++_}
 use mathlib.Core.Logic.{⊎-elim}
-use Prim.Native.Nat.{ℕ, zero, suc, _+_, _-_, _<_, _≤_}
+use Prim.Native.Nat.{ℕ, _+_, _-_, _<_, _≤_}
 use native.Mathlib.Omega.{arith}
 use borrow.Author.Tests.{eq-eqb, ne-eqb, leb-true}
 use lib.Dec.{eqb, leb}
@@ -37,6 +37,7 @@ use Rattle.sender.specs.SenderCall as runs
 use Rattle.runs.specs.declared.calls.Trained.{Trained}
 use Rattle.runs.specs.declared.calls.Reacted.{Reacted}
 use Rattle.runs.specs.declared.State.{State}
+use Rattle.runs.specs.SenderWords.{bits}
 use Rattle.runs.specs.Script.{Item, train, ack, send, tick, lookup, word, itemOf}
 use Rattle.runs.specs.Ran.{questionWords, lookedWords, endWords, ranFrom}
 use Rattle.runs.specs.Turn.{Puts, Turn, senderTurn, turnOf, Leaves, Makes, Trains, Moves, senderCall}
@@ -83,16 +84,6 @@ lent : (t : Trainer) (buf : List ℕ) (n : ℕ) {s : Saved} {last : List ℕ} �
 lent t buf n {last = last} e g =
     ap (λ (k : ℕ). take k last) (let z : n - 0 ≡ n = omega arith in z) ∙ ap (take n) (g ∙ ap (bufferAfter t buf) (sym e))
 
-take-zeros : (m n : ℕ) → n ≤ m → take n (replicate {A = ℕ} m 0) ≡ replicate n 0
-take-zeros m zero h = refl
-take-zeros zero (suc n) h = absurd (omega arith)
-take-zeros (suc m) (suc n) h = ap (λ (l : List ℕ). 0 ∷ l) (take-zeros m n (omega arith))
-
--- a part of a buffer of zeros
-pub part-zeros : (m n : ℕ) → n ≤ m → plain.reload (take (n - 0) (replicate m 0)) ≡ plain.reload (replicate n 0)
-part-zeros m n h =
-    ap plain.reload (ap (λ (k : ℕ). take k (replicate m 0)) (let z : n - 0 ≡ n = omega arith in z) ∙ take-zeros m n h)
-
 module _ (t : Trainer) (out : List ℕ) (at : ℕ) where
   -- the number and the size, the bytes, the question
   pub reported : (a : Answered) (bytes : List ℕ) {u : Trainer} {q : Question} {n m end : ℕ} {one two after : List ℕ} → at ≤ length out
@@ -103,6 +94,9 @@ module _ (t : Trainer) (out : List ℕ) (at : ℕ) where
       record { trainer = e; puts = then out at h (then out at h p b) (spelt two m (ap questionWords (f ∙ ap questionOf e)) w) }
 
   module _ (q : Trained) (after : List ℕ) where
+    pub by-bytes : {bs cs : List ℕ} → bs ≡ cs → Trains out at (stepOf t (plain.reload bs)) q after → Trains out at (stepOf t (plain.reload cs)) q after
+    by-bytes e m = subst (λ (z : List ℕ). Trains out at (stepOf t (plain.reload z)) q after) e m
+
     pub of-call : {c d : plain.Call} → c ≡ d → Trains out at (stepOf t c) q after → Trains out at (stepOf t d) q after
     of-call e m = subst (λ (z : plain.Call). Trains out at (stepOf t z) q after) e m
 
@@ -149,12 +143,12 @@ module _ (t : Trainer) (out : List ℕ) (at : ℕ) (h : at ≤ length out) where
 
 -- ---- calls to the sender
 module _ (s : Sender) (out : List ℕ) (at : ℕ) where
-  pub taken : (h : Held) {answer : Reply} {end : ℕ} {after : List ℕ} → answer ≡ reply.Taken h → Puts out at (0 ∷ (h .window ∷ [])) end after
+  pub taken : (h : Held) {answer : Reply} {end : ℕ} {after : List ℕ} → answer ≡ reply.Taken h → Puts out at (0 ∷ (h .window ∷ (bits (h .sender .«intersend_delay» .0) ∷ []))) end after
       → Moves out at (afterReply s answer) (record { sender = h .sender; at = end }) after
   unfolding afterReply
   taken h e p = rw e (record { sender = refl; puts = p })
 
-  pub refused : (k : ℕ) {answer : Reply} {end : ℕ} {after : List ℕ} → answer ≡ reply.Refused k → Puts out at (k ∷ (0 ∷ [])) end after
+  pub refused : (k : ℕ) {answer : Reply} {end : ℕ} {after : List ℕ} → answer ≡ reply.Refused k → Puts out at (k ∷ (0 ∷ (bits (s .«intersend_delay» .0) ∷ []))) end after
       → Moves out at (afterReply s answer) (record { sender = s; at = end }) after
   unfolding afterReply
   refused k e p = rw e (record { sender = refl; puts = p })

@@ -1,15 +1,14 @@
 -- Floats read from words are binary64 values: so are the settings of a script and the scores of its calls. Assumes nothing.
 use mathlib.Core.Bool.{Bool, true, false, cond}
 use mathlib.Core.List.{List, [], _∷_}
-use Prim.Native.Nat.{ℕ, zero, suc, _+_, _%_}
+use Prim.Native.Nat.{ℕ, zero, suc, _+_}
 use lib.Dec.{T, eqb}
-use lib.ListN.{length, take, drop, replicate}
+use lib.ListN.{length, take, drop}
 use Rattle.floats.proofs.Bits.{read-fits}
 use Rattle.remy.specs.Cube.{pointOf}
-use Rattle.sender.specs.Run.{drawFrom}
 use Rattle.promise.specs.PlainTrainer.{counts, score, reload}
 use Rattle.promise.specs.Values.{Every, FitAction, FitSettings, FitCall}
-use Rattle.runs.specs.Script.{word, float, action, settings, Item, train, ack, send, tick, lookup, sizeOf, itemOf, wholeOf, itemsOf, callsOf}
+use Rattle.runs.specs.Script.{word, float, action, settings, Item, train, ack, send, tick, lookup, drawOf, bytesOf, sizeOf, itemOf, wholeOf, itemsOf, callsOf}
 
 action-fits : (ws : List ℕ) (i : ℕ) → FitAction (action ws i)
 action-fits ws i = record { multiplier = read-fits (word ws i); delay = read-fits (word ws (i + 2)) }
@@ -42,8 +41,8 @@ item-fits ws =
     let code = word ws 0 in
     either (eqb code 1) (train (counts (take (word ws 1) (drop 2 ws)))) _ tt
     (either (eqb code 2) (train (score (float ws 1))) _ (read-fits (word ws 1))
-    (either (eqb code 3) (train (reload (replicate (word ws 1 % 32768) 0))) _ tt
-    (either (eqb code 4) (ack (float ws 1) (float ws 2) (drawFrom (word ws 3))) _ tt
+    (either (eqb code 3) (train (reload (bytesOf (take (word ws 1) (drop 2 ws))))) _ tt
+    (either (eqb code 4) (ack (float ws 1) (float ws 2) (drawOf (word ws 3))) _ tt
     (either (eqb code 5) (send (float ws 1)) _ tt
     (either (eqb code 6) tick (lookup (pointOf (float ws 1) (float ws 2) (float ws 3))) tt tt)))))
 
@@ -57,4 +56,4 @@ items-fit (suc n) ws = go (wholeOf ws) (items-fit n (drop (sizeOf ws) ws))
     go false h = tt
 
 pub calls-fit : (ws : List ℕ) → Every FitItem (callsOf ws)
-calls-fit ws = items-fit (length ws) (drop 22 ws)
+calls-fit ws = items-fit (length ws) (drop 43 ws)

@@ -1,3 +1,4 @@
+pub mod SenderWords
 pub mod Script
 pub mod Compared
 pub mod Ran

@@ -1,10 +1,8 @@
 -- The same words by the contracts of the calls that are made; only private functions and proofs cite these.
-use mathlib.Core.Bool.{Bool, true, false, cond}
+use mathlib.Core.Bool.{cond}
 use mathlib.Core.List.{List, [], _∷_, _++_}
 use Prim.Native.Nat.{ℕ, _+_, min}
 use lib.ListN.{length, take, drop, replicate}
-use lib.Dec.{eqb}
-use Rattle.rule_tree.specs.declared.RuleTree.{RuleTree}
 use Rattle.rule_tree.specs.declared.Looked.{Looked}
 use Rattle.rule_tree.specs.declared.Looked.the-variants as looked
 use Rattle.rule_tree.specs.Calls.{lookupOf}
@@ -18,14 +16,14 @@ use Rattle.record.specs.declared.Saved.{Saved}
 use Rattle.record.specs.declared.Saved.the-variants as saved
 use Rattle.record.specs.Calls.{saveOf, bufferAfter}
 use Rattle.sender.specs.declared.Sender.{Sender}
-use Rattle.sender.specs.declared.Reply.{Reply}
-use Rattle.sender.specs.declared.RepeatMode.{RepeatMode}
-use Rattle.sender.specs.Sender.{modeHolds, freshSender}
+use Rattle.sender.specs.declared.Made.{Made}
+use Rattle.sender.specs.declared.Made.the-variants as made
+use Rattle.sender.specs.Sender.{newOf}
 use Rattle.promise.specs.Demand3.{Step, stepOf}
 use Rattle.promise.specs.SenderRuns.{SenderStep, senderStep}
 use Rattle.sender.specs.SenderCall as runs
-use Rattle.runs.specs.Script.{Item, train, ack, send, tick, lookup, settings, mode, callsOf}
-use Rattle.runs.specs.Compared.{bits, actionWords}
+use Rattle.runs.specs.Script.{Item, train, ack, send, tick, lookup, settings, fresh, mode, handedIn, callsOf}
+use Rattle.runs.specs.SenderWords.{bits, actionWords, senderWords}
 
 unfoldable pub questionWords : Question → List ℕ
 questionWords (question.Counts x) = 1 ∷ (bits x ∷ [])
@@ -36,8 +34,8 @@ questionWords (question.Refused k) = []
 abbrev pub stepWords : Step → List ℕ
 stepWords o = o .refused ∷ (o .size ∷ (o .saved ++ questionWords (questionOf (o .trainer))))
 
-abbrev pub senderWords : SenderStep → List ℕ
-senderWords o = o .event .refused ∷ (o .event .window ∷ [])
+abbrev pub moveWords : SenderStep → List ℕ
+moveWords o = o .event .refused ∷ (o .event .window ∷ (bits (o .sender .«intersend_delay» .0) ∷ []))
 
 unfoldable pub lookedWords : Looked → List ℕ
 lookedWords (looked.Found a) = 1 ∷ actionWords a
@@ -51,26 +49,31 @@ endWords t (saved.Refused k) = []
 
 unfoldable pub ranFrom : Trainer → Sender → List Item → List ℕ
 unfolding questionWords lookedWords endWords
-ranFrom t s [] = endWords t (saveOf t (replicate 16388 0))
+ranFrom t s [] = endWords t (saveOf t (replicate 16388 0)) ++ senderWords s
 ranFrom t s (train c ∷ is) = let o = stepOf t c in stepWords o ++ ranFrom (o .trainer) s is
 ranFrom t s (ack sent received draw ∷ is) =
-    let o = senderStep s (runs.ack (t .tree) sent received draw) in senderWords o ++ ranFrom t (o .sender) is
-ranFrom t s (send at ∷ is) = let o = senderStep s (runs.send at) in senderWords o ++ ranFrom t (o .sender) is
-ranFrom t s (tick ∷ is) = let o = senderStep s runs.tick in senderWords o ++ ranFrom t (o .sender) is
+    let o = senderStep s (runs.ack (t .tree) sent received draw) in moveWords o ++ ranFrom t (o .sender) is
+ranFrom t s (send at ∷ is) = let o = senderStep s (runs.send at) in moveWords o ++ ranFrom t (o .sender) is
+ranFrom t s (tick ∷ is) = let o = senderStep s runs.tick in moveWords o ++ ranFrom t (o .sender) is
 ranFrom t s (lookup p ∷ is) = lookedWords (lookupOf (t .tree) p) ++ ranFrom t s is
 
--- a fresh trainer and a fresh sender, or 2
-unfoldable pub ranWith : Settings → RepeatMode → List Item → List ℕ
+-- the sender of the start
+unfoldable pub madeOf : List ℕ → Made
+unfolding newOf
+madeOf script = cond (fresh script) (newOf (mode script)) (made.Ready (handedIn script))
+
+-- a fresh trainer and that sender, or 2
+unfoldable pub ranMade : Settings → Made → List Item → List ℕ
 unfolding ranFrom
-ranWith s m is =
-    cond (settingsHold s)
-    (cond (modeHolds m)
-    (0 ∷ (questionWords (questionOf (startOf s .trainer)) ++ ranFrom (startOf s .trainer) (freshSender m) is))
-    (2 ∷ []))
-    (2 ∷ [])
+ranMade s (made.Ready x) is = 0 ∷ (questionWords (questionOf (startOf s .trainer)) ++ ranFrom (startOf s .trainer) x is)
+ranMade s (made.Refused k) is = 2 ∷ []
+
+unfoldable pub ranWith : Settings → Made → List Item → List ℕ
+unfolding ranMade
+ranWith s m is = cond (settingsHold s) (ranMade s m is) (2 ∷ [])
 
 abbrev pub ranOf : List ℕ → List ℕ
-ranOf script = ranWith (settings script) (mode script) (callsOf script)
+ranOf script = ranWith (settings script) (madeOf script) (callsOf script)
 
 -- words put from place at on, as many as fit
 abbrev pub putWords : List ℕ → ℕ → List ℕ → List ℕ

@@ -2,14 +2,13 @@
 use mathlib.Core.Path.{_≡_}
 use mathlib.Core.Bool.{cond}
 use mathlib.Core.List.{List}
-use Prim.Native.Nat.{ℕ, _%_}
-use lib.Dec.{eqb}
-use lib.ListN.{take, drop, replicate}
+use Prim.Native.Nat.{ℕ, _+_, _<_, _≤_}
+use lib.Dec.{eqb, leb}
+use lib.ListN.{length, take, drop}
 use Rattle.rule_tree.specs.declared.RuleTree.{RuleTree}
 use Rattle.rule_tree.specs.Calls.{lookupOf}
 use Rattle.trainer.specs.declared.Trainer.{Trainer}
 use Rattle.sender.specs.declared.Sender.{Sender}
-use Rattle.sender.specs.Run.{drawFrom}
 use Rattle.promise.specs.PlainTrainer as plain
 use Rattle.promise.specs.Demand3.{Step, stepOf}
 use Rattle.promise.specs.SenderRuns.{SenderStep, senderStep}
@@ -17,8 +16,8 @@ use Rattle.sender.specs.SenderCall as runs
 use Rattle.runs.specs.declared.calls.Trained.{Trained}
 use Rattle.runs.specs.declared.calls.Reacted.{Reacted}
 use Rattle.runs.specs.declared.State.{State}
-use Rattle.runs.specs.Script.{Item, train, ack, send, tick, lookup, word, float, sizeOf, wholeOf}
-use Rattle.runs.specs.Ran.{stepWords, senderWords, lookedWords, putWords, placeAfter}
+use Rattle.runs.specs.Script.{Item, train, ack, send, tick, lookup, word, float, drawOf, bytesOf, sizeOf, wholeOf}
+use Rattle.runs.specs.Ran.{stepWords, moveWords, lookedWords, putWords, placeAfter}
 
 -- words put from place at on, the place after them, and the slice then
 pub record Puts (out : List ℕ) (at : ℕ) (words : List ℕ) (next : ℕ) (after : List ℕ) : Type 0 where
@@ -35,7 +34,7 @@ abbrev pub trainerTurn : Sender → Step → Turn
 trainerTurn s o = record { trainer = o .trainer; sender = s; words = stepWords o }
 
 abbrev pub senderTurn : Trainer → SenderStep → Turn
-senderTurn t o = record { trainer = t; sender = o .sender; words = senderWords o }
+senderTurn t o = record { trainer = t; sender = o .sender; words = moveWords o }
 
 unfoldable pub turnOf : Trainer → Sender → Item → Turn
 turnOf t s (train c) = trainerTurn s (stepOf t c)
@@ -60,29 +59,38 @@ pub record Trains (out : List ℕ) (at : ℕ) (o : Step) (q : Trained) (after : 
 
 pub record Moves (out : List ℕ) (at : ℕ) (o : SenderStep) (q : Reacted) (after : List ℕ) : Type 0 where
   pub sender : q .sender ≡ o .sender
-  pub puts : Puts out at (senderWords o) (q .at) after
+  pub puts : Puts out at (moveWords o) (q .at) after
 
--- the size of a call of any code but 1
+-- the size of a call of any code but 1 and 3
 unfoldable pub fixedSize : ℕ → ℕ
 fixedSize code =
-    cond (eqb code 2) 2
-    (cond (eqb code 3) 2 (cond (eqb code 4) 4 (cond (eqb code 5) 2 (cond (eqb code 6) 1 (cond (eqb code 8) 4 0)))))
+    cond (eqb code 2) 2 (cond (eqb code 4) 4 (cond (eqb code 5) 2 (cond (eqb code 6) 1 (cond (eqb code 8) 4 0))))
+
+-- the size of a call that lists its words, 0 where it is cut off
+unfoldable pub listedSize : List ℕ → ℕ
+listedSize ws = cond (leb (2 + word ws 1) (length ws)) (2 + word ws 1) 0
 
 -- the size of a whole call, 0 where none stands
 unfoldable pub wholeSize : List ℕ → ℕ
 unfolding wholeOf
 wholeSize ws = cond (wholeOf ws) (sizeOf ws) 0
 
+-- a whole call of that size stands first
+pub record First (ws : List ℕ) (size : ℕ) : Type 0 where
+  pub sized : size ≡ sizeOf ws
+  pub some : 0 < size
+  pub within : size ≤ length ws
+
 -- the call to the trainer that stands first, of code 1, 2 or else 3
 unfoldable pub trainerCall : List ℕ → plain.Call
 trainerCall ws =
     let code = word ws 0 in
     cond (eqb code 1) (plain.counts (take (word ws 1) (drop 2 ws)))
-    (cond (eqb code 2) (plain.score (float ws 1)) (plain.reload (replicate (word ws 1 % 32768) 0)))
+    (cond (eqb code 2) (plain.score (float ws 1)) (plain.reload (bytesOf (take (word ws 1) (drop 2 ws)))))
 
 -- the call to the sender that stands first, of code 4, 5 or else 6
 unfoldable pub senderCall : RuleTree → List ℕ → runs.SenderCall RuleTree
 senderCall t ws =
     let code = word ws 0 in
-    cond (eqb code 4) (runs.ack t (float ws 1) (float ws 2) (drawFrom (word ws 3)))
+    cond (eqb code 4) (runs.ack t (float ws 1) (float ws 2) (drawOf (word ws 3)))
     (cond (eqb code 5) (runs.send (float ws 1)) runs.tick)

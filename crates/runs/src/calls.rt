@@ -1,7 +1,7 @@
 // The calls, each with the words that are compared of it.
 ghost use mathlib.Core.Path.{_≡_};
 ghost use mathlib.Core.List.{[]};
-ghost use Prim.Native.Nat.{_≤_};
+ghost use Prim.Native.Nat.{_≤_, _<_};
 ghost use lib.ListN.{length, replicate};
 ghost use Rattle.remy.specs.Cube.{pointOf};
 ghost use Rattle.rule_tree.specs.Calls.{lookupOf};
@@ -12,7 +12,7 @@ ghost use Rattle.promise.specs.SenderRuns.{afterReply, senderStep};
 ghost use Rattle.sender.specs.SenderCall as moves;
 ghost use Rattle.runs.specs.Script as spec;
 ghost use Rattle.runs.specs.Ran.{lookedWords, endWords};
-ghost use Rattle.runs.specs.Turn.{Puts, Trains, Moves, trainerCall, senderCall};
+ghost use Rattle.runs.specs.Turn.{Puts, First, Trains, Moves, trainerCall, senderCall};
 use crate::script;
 use crate::words;
 use record::Saved;
@@ -21,7 +21,6 @@ use rule_tree::RuleTree;
 use sender::Draw;
 use sender::Reply;
 use sender::Sender;
-use sender::inner::run::draw_from;
 use trainer::Answered;
 use trainer::Trainer;
 
@@ -97,12 +96,22 @@ fn reload_by(t: Trainer, buffer: &mut [u8], out: &mut [u64], at: usize) -> Train
     }
 }
 
-fn reload(t: Trainer, n: usize, out: &mut [u64], at: usize) -> Trained
-    requires { ⌜ (at ≤ length (now out)) × (n ≤ 32768) ⌝ }
-    ensures { λ q. ⌜ Trains (now (out .entry)) at (stepOf t (plain.reload (replicate n 0))) q (now (out .exit)) ⌝ }
+// A reload by the buffer, filled with the words' bytes.
+fn reload_in(t: Trainer, ws: &[u64], buffer: &mut [u8], out: &mut [u64], at: usize) -> Trained
+    requires { ⌜ (at ≤ length (now out)) × (length (now buffer) ≡ length (now ws)) ⌝ }
+    ensures { λ q. ⌜ Trains (now (out .entry)) at (stepOf t (plain.reload (spec.bytesOf (now (ws .entry))))) q (now (out .exit)) ⌝ }
+{
+    script::fill(buffer, ws);
+    reload_by(t, buffer, out, at)
+}
+
+fn reload(t: Trainer, ws: &[u64], out: &mut [u64], at: usize) -> Trained
+    requires { ⌜ (at ≤ length (now out)) × (length (now ws) ≤ 32768) ⌝ }
+    ensures { λ q. ⌜ Trains (now (out .entry)) at (stepOf t (plain.reload (spec.bytesOf (now (ws .entry))))) q (now (out .exit)) ⌝ }
 {
     let mut buffer = [0u8; 32768];
-    reload_by(t, &mut buffer[0..n], out, at)
+    let n = ws.len();
+    reload_in(t, ws, &mut buffer[0..n], out, at)
 }
 
 // The record at the end, its size and its bytes.
@@ -127,11 +136,13 @@ fn react(s: Sender, reply: Reply, out: &mut [u64], at: usize) -> Reacted
     match reply {
         Reply::Taken(held) => {
             let sender = held.sender;
-            let end = words::put_pair(out, at, 0, held.window as u64);
+            let wait = sender.intersend_delay.0;
+            let end = words::put_reaction(out, at, 0, held.window, wait);
             Reacted { sender, at: end }
         }
         Reply::Refused(number) => {
-            let end = words::put_pair(out, at, number as u64, 0);
+            let wait = s.intersend_delay.0;
+            let end = words::put_reaction(out, at, number, 0, wait);
             Reacted { sender: s, at: end }
         }
     }
@@ -177,17 +188,14 @@ pub(crate) fn trainer_call(
     out: &mut [u64],
     at: usize,
 ) -> Trained
-    requires { ⌜ (at ≤ length (now out)) × ((size ≡ spec.sizeOf (now ws)) × (size ≤ length (now ws))) ⌝ }
+    requires { ⌜ (at ≤ length (now out)) × (First (now ws) size × (spec.word (now ws) 0 < 4)) ⌝ }
     ensures { λ q. ⌜ Trains (now (out .entry)) at (stepOf t (trainerCall (now (ws .entry)))) q (now (out .exit)) ⌝ }
 {
     let code = script::word(ws, 0);
     match code {
         1 => answer_counts(t, &ws[2..size], out, at),
         2 => answer_score(t, script::float(ws, 1), out, at),
-        _ => {
-            let n = (script::word(ws, 1) % 32768) as usize;
-            reload(t, n, out, at)
-        }
+        _ => reload(t, &ws[2..size], out, at),
     }
 }
 
@@ -207,7 +215,7 @@ pub(crate) fn sender_call(
     match code {
         4 => {
             let received = script::float(ws, 2);
-            let draw = draw_from(script::word(ws, 3));
+            let draw = script::draw_of(script::word(ws, 3));
             ack(tree, s, x, received, draw, out, at)
         }
         5 => send(s, x, out, at),

@@ -1,6 +1,6 @@
-// A list of calls, made on a fresh trainer and a fresh sender, and the words that are compared.
+// A list of calls, made on a fresh trainer and on a sender that is fresh or handed in, and the words that are compared.
 ghost use mathlib.Core.Path.{_≡_};
-ghost use Prim.Native.Nat.{min, _≤_};
+ghost use Prim.Native.Nat.{min, _≤_, _<_};
 ghost use mathlib.Core.List.{_∷_, _++_};
 ghost use lib.ListN.{length, drop};
 ghost use Rattle.remy.specs.Cube.{pointOf};
@@ -9,8 +9,8 @@ ghost use Rattle.promise.specs.SenderRuns.{senderStep};
 ghost use Rattle.runs.specs.Script.{itemsOf, callsOf};
 ghost use Rattle.runs.specs.Script as spec;
 ghost use Rattle.runs.specs.Compared.{comparedOf, laid};
-ghost use Rattle.runs.specs.Ran.{questionWords, ranFrom, ranOf};
-ghost use Rattle.runs.specs.Turn.{Puts, Leaves, Makes, senderTurn, trainerCall, senderCall};
+ghost use Rattle.runs.specs.Ran.{questionWords, ranFrom, madeOf, ranOf};
+ghost use Rattle.runs.specs.Turn.{Puts, First, Leaves, Makes, senderTurn, trainerCall, senderCall};
 use sender::Made;
 use sender::Sender;
 use trainer::Trainer;
@@ -28,7 +28,7 @@ struct State {
 
 // A call to the trainer.
 fn train(r: State, ws: &[u64], size: usize, out: &mut [u64]) -> State
-    requires { ⌜ (r .at ≤ length (now out)) × ((size ≡ spec.sizeOf (now ws)) × (size ≤ length (now ws))) ⌝ }
+    requires { ⌜ (r .at ≤ length (now out)) × (First (now ws) size × (spec.word (now ws) 0 < 4)) ⌝ }
     ensures { λ q. ⌜ Makes r (spec.train (trainerCall (now (ws .entry)))) (now (out .entry)) q (now (out .exit)) ⌝ }
 {
     let t = r.trainer;
@@ -72,7 +72,7 @@ fn look(mut r: State, ws: &[u64], out: &mut [u64]) -> State
 
 // The call that stands first in the words, of that size.
 fn call(r: State, ws: &[u64], size: usize, out: &mut [u64]) -> State
-    requires { ⌜ (r .at ≤ length (now out)) × ((size ≡ spec.sizeOf (now ws)) × (size ≤ length (now ws))) ⌝ }
+    requires { ⌜ (r .at ≤ length (now out)) × First (now ws) size ⌝ }
     ensures { λ q. ⌜ Makes r (spec.itemOf (now (ws .entry))) (now (out .entry)) q (now (out .exit)) ⌝ }
 {
     let code = script::word(ws, 0);
@@ -83,7 +83,7 @@ fn call(r: State, ws: &[u64], size: usize, out: &mut [u64]) -> State
     }
 }
 
-// The calls from place from on, one after the other, and the record at the end.
+// The calls from place from on, one after the other, and at the end the record and the sender.
 fn make_calls(r: State, script: &[u64], from: usize, out: &mut [u64]) -> usize
     requires { ⌜ (from ≤ length (now script)) × (r .at ≤ length (now out)) ⌝ }
     ensures { λ n. ⌜ Puts (now (out .entry)) (r .at) (ranFrom (r .trainer) (r .sender) (itemsOf (length (now (script .entry))) (drop from (now (script .entry))))) n (now (out .exit)) ⌝ }
@@ -97,14 +97,16 @@ fn make_calls(r: State, script: &[u64], from: usize, out: &mut [u64]) -> usize
         size = script::whole_size(&script[p..script.len()]);
     }
     let t = state.trainer;
-    calls::finish(t, out, state.at)
+    let s = state.sender;
+    let next = calls::finish(t, out, state.at);
+    words::put_sender(out, next, s)
 }
 
 // The place of the first call.
 fn first(script: &[u64]) -> usize
-    ensures { λ r. ⌜ r ≡ min 22 (length (now (script .entry))) ⌝ }
+    ensures { λ r. ⌜ r ≡ min 43 (length (now (script .entry))) ⌝ }
 {
-    if 22 <= script.len() { 22 } else { script.len() }
+    if 43 <= script.len() { 43 } else { script.len() }
 }
 
 // All that follows a start that is not refused.
@@ -121,6 +123,16 @@ fn from_start(trainer: Trainer, sender: Sender, script: &[u64], out: &mut [u64])
     make_calls(r, script, first(script), out)
 }
 
+// The sender of the start: a fresh one, or the one that is handed in.
+fn first_sender(script: &[u64]) -> Made
+    ensures { λ r. ⌜ r ≡ madeOf (now (script .entry)) ⌝ }
+{
+    if script::word(script, 19) == 0 {
+        return Sender::new(script::mode(script));
+    }
+    Made::Ready(script::handed_in(script))
+}
+
 // The calls by their contracts.
 fn run_all(script: &[u64], out: &mut [u64]) -> usize
     ensures { λ n. ⌜ Puts (now (out .entry)) 0 (ranOf (now (script .entry))) n (now (out .exit)) ⌝ }
@@ -128,7 +140,7 @@ fn run_all(script: &[u64], out: &mut [u64]) -> usize
     let a = Trainer::start(script::settings(script));
     if a.refused == 0 {
         let t = a.trainer;
-        let Made::Ready(s) = Sender::new(script::mode(script)) else {
+        let Made::Ready(s) = first_sender(script) else {
             return words::put(out, 0, 2);
         };
         return from_start(t, s, script, out);
@@ -136,7 +148,7 @@ fn run_all(script: &[u64], out: &mut [u64]) -> usize
     words::put(out, 0, 2)
 }
 
-// Makes the calls of the script on a fresh trainer and a fresh sender, and writes what is compared, as much as out has room for.
+// Makes the calls of the script on a fresh trainer and the sender of its start, and writes what is compared, as much as out has room for.
 pub fn run(script: &[u64], out: &mut [u64]) -> usize
     ensures { λ r. ⌜ (r ≡ min (length (comparedOf (now (script .entry)))) (length (now (out .entry)))) × (now (out .exit) ≡ laid (comparedOf (now (script .entry))) (now (out .entry))) ⌝ }
 {

@@ -5,11 +5,18 @@ ghost use Prim.Native.Nat.{_≤_};
 ghost use lib.ListN.{length};
 ghost use mir.Syntax.{w32};
 ghost use mir.Val.{ofZ};
-ghost use Rattle.runs.specs.Compared.{actionWords};
+ghost use Rattle.runs.specs.SenderWords.{bits, actionWords, modeWords, momentWords, averageWords, tripWords, pendingWords, senderWords};
 ghost use Rattle.runs.specs.Ran.{questionWords, lookedWords};
 ghost use Rattle.runs.specs.Turn.{Puts};
+use quantities::Time;
 use remy::action::Action;
 use rule_tree::Looked;
+use sender::Average;
+use sender::Moment;
+use sender::Pending;
+use sender::RepeatMode;
+use sender::Rtt;
+use sender::Sender;
 use trainer::Question;
 
 pub(crate) fn put(out: &mut [u64], at: usize, x: u64) -> usize
@@ -29,6 +36,14 @@ pub(crate) fn put_pair(out: &mut [u64], at: usize, x: u64, y: u64) -> usize
 {
     let next = put(out, at, x);
     put(out, next, y)
+}
+
+fn put_three(out: &mut [u64], at: usize, x: u64, y: u64, z: u64) -> usize
+    requires { ⌜ at ≤ length (now out) ⌝ }
+    ensures { λ r. ⌜ Puts (now (out .entry)) at (x ∷ (y ∷ (z ∷ []))) r (now (out .exit)) ⌝ }
+{
+    let next = put_pair(out, at, x, y);
+    put(out, next, z)
 }
 
 // A word for each byte.
@@ -98,4 +113,117 @@ pub(crate) fn put_looked(out: &mut [u64], at: usize, found: Looked) -> usize
     };
     let next = put(out, at, 1);
     put_action(out, next, a)
+}
+
+// A refusal's number or 0, the window that is handed back, and the wait that is held.
+pub(crate) fn put_reaction(
+    out: &mut [u64],
+    at: usize,
+    refused: u32,
+    window: u32,
+    wait: f64,
+) -> usize
+    requires { ⌜ at ≤ length (now out) ⌝ }
+    ensures { λ r. ⌜ Puts (now (out .entry)) at (refused ∷ (window ∷ (bits wait ∷ []))) r (now (out .exit)) ⌝ }
+{
+    put_three(
+        out,
+        at,
+        refused as u64,
+        window as u64,
+        floats::to_bits(wait),
+    )
+}
+
+fn put_mode(out: &mut [u64], at: usize, mode: RepeatMode) -> usize
+    requires { ⌜ at ≤ length (now out) ⌝ }
+    ensures { λ r. ⌜ Puts (now (out .entry)) at (modeWords mode) r (now (out .exit)) ⌝ }
+{
+    match mode {
+        RepeatMode::Off => put_three(out, at, 0, 0, 0),
+        RepeatMode::Always(n) => put_three(out, at, 1, n as u64, 0),
+        RepeatMode::Between(lo, hi) => put_three(out, at, 2, lo as u64, hi as u64),
+    }
+}
+
+// The seconds that a moment holds.
+fn number_of(t: Time) -> f64
+    ensures { λ r. ⌜ r ≡ t .0 ⌝ }
+{
+    t.held()
+}
+
+fn put_moment(out: &mut [u64], at: usize, moment: Moment) -> usize
+    requires { ⌜ at ≤ length (now out) ⌝ }
+    ensures { λ r. ⌜ Puts (now (out .entry)) at (momentWords moment) r (now (out .exit)) ⌝ }
+{
+    match moment {
+        Moment::Never => put_pair(out, at, 0, 0),
+        Moment::At(t) => put_pair(out, at, 1, floats::to_bits(number_of(t))),
+    }
+}
+
+fn put_average(out: &mut [u64], at: usize, average: Average) -> usize
+    requires { ⌜ at ≤ length (now out) ⌝ }
+    ensures { λ r. ⌜ Puts (now (out .entry)) at (averageWords average) r (now (out .exit)) ⌝ }
+{
+    match average {
+        Average::Empty => put_pair(out, at, 0, 0),
+        Average::Of(x) => put_pair(out, at, 1, floats::to_bits(x.0)),
+    }
+}
+
+fn put_trips(out: &mut [u64], at: usize, rtt: Rtt) -> usize
+    requires { ⌜ at ≤ length (now out) ⌝ }
+    ensures { λ r. ⌜ Puts (now (out .entry)) at (tripWords rtt) r (now (out .exit)) ⌝ }
+{
+    match rtt {
+        Rtt::Unknown => put_three(out, at, 0, 0, 0),
+        Rtt::Known(shortest, current) => {
+            let least = floats::to_bits(shortest.0);
+            let last = floats::to_bits(current.0);
+            put_three(out, at, 1, least, last)
+        }
+    }
+}
+
+fn put_pending(out: &mut [u64], at: usize, pending: Pending) -> usize
+    requires { ⌜ at ≤ length (now out) ⌝ }
+    ensures { λ r. ⌜ Puts (now (out .entry)) at (pendingWords pending) r (now (out .exit)) ⌝ }
+{
+    match pending {
+        Pending::Idle => {
+            let next = put_pair(out, at, 0, 0);
+            put_three(out, next, 0, 0, 0)
+        }
+        Pending::Repeat(left, a) => {
+            let next = put_pair(out, at, 1, left as u64);
+            put_action(out, next, a)
+        }
+    }
+}
+
+// The whole sender.
+pub(crate) fn put_sender(out: &mut [u64], at: usize, s: Sender) -> usize
+    requires { ⌜ at ≤ length (now out) ⌝ }
+    ensures { λ r. ⌜ Puts (now (out .entry)) at (senderWords s) r (now (out .exit)) ⌝ }
+{
+    let repeats = s.repeat_actions;
+    let last_ack = s.last_ack;
+    let last_ack_send = s.last_ack_send;
+    let ack_ewma = s.ack_ewma;
+    let send_ewma = s.send_ewma;
+    let rtt = s.rtt;
+    let next_change = s.next_change;
+    let last_send = s.last_send;
+    let wait = floats::to_bits(s.intersend_delay.0);
+    let mode = put_mode(out, at, repeats);
+    let acked = put_moment(out, mode, last_ack);
+    let sent = put_moment(out, acked, last_ack_send);
+    let acks = put_average(out, sent, ack_ewma);
+    let sends = put_average(out, acks, send_ewma);
+    let trips = put_trips(out, sends, rtt);
+    let pending = put_pending(out, trips, next_change);
+    let standing = put_moment(out, pending, last_send);
+    put_pair(out, standing, s.window as u64, wait)
 }

@@ -2,6 +2,7 @@
 use Rattle.runs.proofs.Turning as law
 use Rattle.runs.proofs.Reading as read
 use mathlib.Core.Logic.{⊎-elim}
+use native.Mathlib.Omega.{arith}
 use Rattle.runs.proofs.call.Statement.{statement}
 use Rattle.runs.proofs.call.Tie as tie
 
@@ -9,7 +10,7 @@ word-requires : tie.Need-word-requires
 word-requires c κs = tt
 
 train-requires : tie.Need-train-requires
-train-requires c κs = c .before .before .before .before .before .before .pre
+train-requires c κs = let p = c .before .before .before .before .before .before .pre in (p .0, (p .1, omega (arith, c .before .before .before .word .ensures, c .before .if2 .taken)))
 
 react-requires : tie.Need-react-requires
 react-requires c κs = c .before .before .before .before .before .before .before .pre .0

@@ -1,5 +1,6 @@
 -- The loop's invariant: what is left to put, once it is put, makes the whole. Assumes nothing.
 use Rattle.runs.proofs.Looping as law
+use Rattle.runs.proofs.Putting as put
 use native.Mathlib.Omega.{arith}
 use mathlib.Core.Path.{_∙_}
 use Prim.Native.Nat.{_-_}
@@ -73,13 +74,16 @@ loop-again : tie.Need-loop-again Inv-loop μ-loop
 loop-again c = let l = c .before .before .before .before .before .before .before .before .loop in law.stood-next (c .before .before .before .before .before .before .before .before .before .before .before .before .before .args .script .now) _ (l .out) (l .state) (l .p) (l .size) (l .inv) (c .before .before .before .before .before .before .before .loop-test .taken) (c .before .before .before .before .call .ensures) (c .before .before .before .before .call .kept .1 .1 .1 .0) (c .whole-size2 .ensures)
 
 finish-requires : tie.Need-finish-requires Inv-loop μ-loop
-finish-requires c κs = c .before .before .before .loop .inv .fit
+finish-requires c κs = c .before .before .before .before .loop .inv .fit
+
+put-sender-requires : tie.Need-put-sender-requires Inv-loop μ-loop
+put-sender-requires c κs = put.carried _ _ (c .before .before .before .finish .ensures) (c .before .before .before .finish .kept .1 .0)
 
 same-length : tie.Need-same-length Inv-loop μ-loop
-same-length c = c .before .before .finish .kept .1 .0 ∙ c .before .before .before .before .before .before .loop .inv .same
+same-length c = c .before .before .put-sender .kept .0 ∙ c .before .before .before .before .before .before .finish .kept .1 .0 ∙ c .before .before .before .before .before .before .before .before .before .before .before .loop .inv .same
 
 returns : tie.Need-returns Inv-loop μ-loop
-returns c = let l = c .before .before .before .before .before .before .loop in law.stood-last (c .before .before .before .before .before .before .before .before .before .before .before .args .script .now) _ (l .out) (l .state) (l .p) (l .size) (l .inv) (c .before .before .before .before .before .loop-test .left) (c .before .before .finish .ensures)
+returns c = let l = c .before .before .before .before .before .before .before .before .before .before .before .loop in law.stood-last (c .before .before .before .before .before .before .before .before .before .before .before .before .before .before .before .before .args .script .now) _ (l .out) (l .state) (l .p) (l .size) (l .inv) (c .before .before .before .before .before .before .before .before .before .before .loop-test .left) (c .before .before .before .before .before .before .finish .ensures) (c .before .before .put-sender .ensures)
 
 pub make-calls-spec : {M : Type 1} → statement M
 make-calls-spec =
@@ -107,5 +111,6 @@ make-calls-spec =
     loop-less
     loop-again
     finish-requires
+    put-sender-requires
     same-length
     returns)

@@ -1,6 +1,6 @@
 -- A start that is refused is 2. Assumes nothing.
-use Rattle.runs.proofs.Looping as law
 use borrow.Author.Needs.{needs}
+use Rattle.runs.proofs.Looping as law
 use Rattle.runs.proofs.run_all.Statement.{statement}
 use Rattle.runs.proofs.run_all.Tie as tie
 
@@ -10,11 +10,8 @@ settings-requires c κs = tt
 start-requires : tie.Need-start-requires
 start-requires c κs = tt
 
-mode-requires : tie.Need-mode-requires
-mode-requires c κs = tt
-
-new-requires : tie.Need-new-requires
-new-requires c κs = tt
+first-sender-requires : tie.Need-first-sender-requires
+first-sender-requires c κs = tt
 
 enum-known-s : tie.Need-enum-known-s
 enum-known-s c = search needs
@@ -29,7 +26,7 @@ same-length : tie.Need-same-length
 same-length c = c .before .before .put .kept .0
 
 returns : tie.Need-returns
-returns c = law.refuses-mode (c .before .before .before .before .before .before .before .before .before .before .before .before .before .before .before .args .script .now) (c .before .before .before .before .before .before .before .before .before .before .before .before .before .before .before .args .out .now) (c .before .before .before .before .before .before .before .before .before .before .before .before .settings .ensures) (c .before .before .before .before .before .before .before .before .before .before .before .start .ensures) _ (c .before .before .before .before .before .before .before .before .before .if1 .taken) (c .before .before .before .before .before .before .before .mode .ensures) (c .before .before .before .before .before .before .new .ensures) (c .before .before .before .before .enum-told .given .1) (c .before .before .put .ensures)
+returns c = law.refuses-sender (c .before .before .before .before .before .before .before .before .before .before .before .before .before .before .args .script .now) (c .before .before .before .before .before .before .before .before .before .before .before .before .before .before .args .out .now) (c .before .before .before .before .before .before .before .before .before .before .before .settings .ensures) (c .before .before .before .before .before .before .before .before .before .before .start .ensures) _ (c .before .before .before .before .before .before .before .before .if1 .taken) (c .before .before .before .before .before .before .first-sender .ensures) (c .before .before .before .before .enum-told .given .1) (c .before .before .put .ensures)
 
 from-start-requires : tie.Need-from-start-requires
 from-start-requires c κs = tt
@@ -38,7 +35,7 @@ same-length-2 : tie.Need-same-length-2
 same-length-2 c = c .before .before .from-start .kept .1 .1 .1 .0
 
 returns-2 : tie.Need-returns-2
-returns-2 c = law.runs-all (c .before .before .before .before .before .before .before .before .before .before .before .before .before .before .before .before .args .script .now) (c .before .before .before .before .before .before .before .before .before .before .before .before .before .before .before .before .args .out .now) (c .before .before .before .before .before .before .before .before .before .before .before .before .before .settings .ensures) (c .before .before .before .before .before .before .before .before .before .before .before .before .start .ensures) _ (c .before .before .before .before .before .before .before .before .before .before .if1 .taken) (c .before .before .before .before .before .before .before .before .mode .ensures) (c .before .before .before .before .before .before .before .new .ensures) (c .before .before .before .before .before .s .given .1) (c .before .before .from-start .ensures)
+returns-2 c = law.runs-all (c .before .before .before .before .before .before .before .before .before .before .before .before .before .before .before .args .script .now) (c .before .before .before .before .before .before .before .before .before .before .before .before .before .before .before .args .out .now) (c .before .before .before .before .before .before .before .before .before .before .before .before .settings .ensures) (c .before .before .before .before .before .before .before .before .before .before .before .start .ensures) _ (c .before .before .before .before .before .before .before .before .before .if1 .taken) (c .before .before .before .before .before .before .before .first-sender .ensures) (c .before .before .before .before .before .s .given .1) (c .before .before .from-start .ensures)
 
 put-requires-2 : tie.Need-put-requires-2
 put-requires-2 c κs = search needs
@@ -55,8 +52,7 @@ run-all-spec =
     (tie.spec
     settings-requires
     start-requires
-    mode-requires
-    new-requires
+    first-sender-requires
     enum-known-s
     enum-told
     put-requires

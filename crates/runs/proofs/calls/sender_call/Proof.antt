@@ -16,8 +16,8 @@ float-requires-2 c κs = tt
 word-requires-2 : tie.Need-word-requires-2
 word-requires-2 c κs = tt
 
-draw-from-requires : tie.Need-draw-from-requires
-draw-from-requires c κs = tt
+draw-of-requires : tie.Need-draw-of-requires
+draw-of-requires c κs = tt
 
 ack-requires : tie.Need-ack-requires
 ack-requires c κs = c .before .before .before .before .before .before .before .before .before .pre
@@ -32,7 +32,7 @@ same-length : tie.Need-same-length
 same-length c = c .before .before .ack .kept .1 .1 .1 .1 .1 .0
 
 returns : tie.Need-returns
-returns c = law.of-move (c .before .before .before .before .before .before .before .before .before .before .before .before .args .s) (c .before .before .before .before .before .before .before .before .before .before .before .before .args .out .now) (c .before .before .before .before .before .before .before .before .before .before .before .before .args .at) _ _ (read.call-ack (c .before .before .before .before .before .before .before .before .before .before .before .before .args .ws .now) _ (c .before .before .before .before .before .before .before .before .before .word .ensures) (c .before .before .before .before .before .before .before .before .before .before .before .before .args .tree) (c .before .before .before .before .before .before .before .match .keys1) (c .before .before .before .before .before .before .before .before .float .ensures) (c .before .before .before .before .before .before .float2 .ensures) (c .before .before .before .before .before .word2 .ensures) (c .before .before .before .before .draw-from .ensures)) (c .before .before .ack .ensures)
+returns c = law.of-move (c .before .before .before .before .before .before .before .before .before .before .before .before .args .s) (c .before .before .before .before .before .before .before .before .before .before .before .before .args .out .now) (c .before .before .before .before .before .before .before .before .before .before .before .before .args .at) _ _ (read.call-ack (c .before .before .before .before .before .before .before .before .before .before .before .before .args .ws .now) _ (c .before .before .before .before .before .before .before .before .before .word .ensures) (c .before .before .before .before .before .before .before .before .before .before .before .before .args .tree) (c .before .before .before .before .before .before .before .match .keys1) (c .before .before .before .before .before .before .before .before .float .ensures) (c .before .before .before .before .before .before .float2 .ensures) (c .before .before .before .before .before .word2 .ensures) (c .before .before .before .before .draw-of .ensures)) (c .before .before .ack .ensures)
 
 same-length-2 : tie.Need-same-length-2
 same-length-2 c = c .before .before .send .kept .1 .1 .0
@@ -54,7 +54,7 @@ sender-call-spec =
     float-requires
     float-requires-2
     word-requires-2
-    draw-from-requires
+    draw-of-requires
     ack-requires
     send-requires
     tick-requires

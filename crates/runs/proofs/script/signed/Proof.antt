@@ -1,5 +1,5 @@
 -- The number of 32 bits. Assumes nothing.
-use Rattle.record.proofs.Signed as law
+use Rattle.wire.proofs.Signed as law
 use Rattle.runs.proofs.script.signed.Statement.{statement}
 use Rattle.runs.proofs.script.signed.Tie as tie
 

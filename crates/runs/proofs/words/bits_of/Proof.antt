@@ -1,5 +1,5 @@
 -- The 32 bits of a number. Assumes nothing.
-use Rattle.record.proofs.Signed as law
+use Rattle.wire.proofs.Signed as law
 use Rattle.runs.proofs.words.bits_of.Statement.{statement}
 use Rattle.runs.proofs.words.bits_of.Tie as tie
 
