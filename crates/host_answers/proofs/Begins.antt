@@ -13,7 +13,7 @@ use Rattle.trainer.specs.State.{leafAction}
 use Rattle.trainer.specs.Phases.{refuse, taken, tryFrom}
 use Rattle.trainer.specs.Calls.{wantsScore, scoreStep}
 use Rattle.trainer.proofs.AcceptedFacts.{accepted-settings, scoring-ask, scoring-try, leaf-slot, action-valid, try-holds, k-listed}
-use Rattle.record.specs.Read.{floatAt}
+use Rattle.wire.specs.Fields.{floatAt}
 use Rattle.host_answers.specs.declared.inner.steps.Tuned.{Tuned}
 use Rattle.host_answers.specs.Answers.{scoresOn}
 use Rattle.host_answers.specs.Parts.{beginOf, Counted, tunedOf, trainerOf, Ready, AtLeaf}

@@ -12,7 +12,7 @@ use Rattle.trainer.specs.declared.Trainer.{Trainer}
 use Rattle.trainer.specs.declared.Answered.{Answered}
 use Rattle.trainer.specs.Phases.{refuse}
 use Rattle.trainer.specs.Calls.{answerCountsOf}
-use Rattle.record.specs.Bytes.{numberAt}
+use Rattle.wire.specs.Bytes.{numberAt}
 use Rattle.host_trainer.specs.Records.{countsIn}
 use Rattle.host_answers.specs.Answers.{scoresOn, groupSize, groupBody, groupOn}
 

@@ -18,8 +18,8 @@ use Rattle.trainer.specs.Phases.{refuse, taken}
 use Rattle.trainer.specs.Calls.{wantsScore, answerScoreOf, scoreStep}
 use Rattle.trainer.proofs.Steps.{score-unwanted, score-taken}
 use Rattle.trainer.proofs.Accepting.{Held, score-held}
-use Rattle.record.specs.Bytes.{valueFrom}
-use Rattle.record.specs.Read.{floatAt}
+use Rattle.wire.specs.Bytes.{valueFrom}
+use Rattle.wire.specs.Fields.{floatAt}
 use Rattle.host_trainer.specs.Records.{onTrainer}
 use Rattle.host_answers.specs.Answers.{scoresOn}
 use Rattle.host_answers.specs.Parts.{Ready}

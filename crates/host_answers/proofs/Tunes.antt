@@ -15,7 +15,7 @@ use Rattle.trainer.specs.Phases.{refuse, taken}
 use Rattle.trainer.specs.Calls.{wantsScore}
 use Rattle.trainer.proofs.AcceptedFacts.{accepted-settings, scoring-try, action-valid, try-holds, k-listed, kept-listed}
 use Rattle.trainer.proofs.Accepting.{Held}
-use Rattle.record.specs.Read.{floatAt}
+use Rattle.wire.specs.Fields.{floatAt}
 use Rattle.host_answers.specs.declared.inner.steps.Tuned.{Tuned}
 use Rattle.host_answers.specs.Answers.{scoresOn}
 use Rattle.host_answers.specs.Parts.{stepOf, Tuning, Among, Counted, trainerOf, Ready}

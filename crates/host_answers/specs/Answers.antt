@@ -4,12 +4,13 @@ use mathlib.Core.List.{List}
 use Prim.Native.Nat.{ℕ, zero, suc, _+_, _*_}
 use lib.ListN.{length, getD, take, drop}
 use lib.Dec.{eqb, leb}
+use Rattle.refusal.specs.Numbers.{badLength}
 use Rattle.trainer.specs.declared.Trainer.{Trainer}
 use Rattle.trainer.specs.declared.Answered.{Answered}
 use Rattle.trainer.specs.Phases.{refuse, taken}
 use Rattle.trainer.specs.Calls.{answerCountsOf, answerScoreOf}
-use Rattle.record.specs.Bytes.{numberAt}
-use Rattle.record.specs.Read.{floatAt}
+use Rattle.wire.specs.Bytes.{numberAt}
+use Rattle.wire.specs.Fields.{floatAt}
 use Rattle.record.specs.Calls.{loadOf}
 use Rattle.host_trainer.specs.Records.{onTrainer, countsIn}
 
@@ -33,8 +34,8 @@ unfoldable pub groupOn : List ℕ → Trainer → Answered
 groupOn bytes t =
     cond (leb (groupSize bytes) (length bytes))
     (cond (eqb (getD bytes 0 0) 1) (answerCountsOf t (countsIn (groupBody bytes)))
-    (cond (eqb (getD bytes 0 0) 2) (scoresOn t (groupBody bytes) (groupCount bytes)) (refuse 6 t)))
-    (refuse 6 t)
+    (cond (eqb (getD bytes 0 0) 2) (scoresOn t (groupBody bytes) (groupCount bytes)) (refuse badLength t)))
+    (refuse badLength t)
 
 -- group by group; each has at least 3 bytes, so there are fewer than fuel
 unfoldable pub groupsOn : ℕ → List ℕ → Answered → Answered

@@ -13,7 +13,8 @@ use Rattle.trainer.specs.Candidates.{candidatesOf}
 use Rattle.trainer.specs.State.{acceptedOf}
 use Rattle.record.specs.declared.Saved.{Saved}
 use Rattle.record.specs.declared.Saved.the-variants.{Size, Refused}
-use Rattle.record.specs.Read.{actionAt, settingsAt}
+use Rattle.wire.specs.Fields.{actionAt}
+use Rattle.record.specs.Read.{settingsAt}
 use Rattle.record.specs.Calls.{loadOf}
 use Rattle.record.proofs.Loading.{load-again}
 use Rattle.host_trainer.specs.Records.{settingsWhole}

@@ -12,8 +12,8 @@ use Rattle.remy.specs.declared.action.Action.{Action}
 use Rattle.trainer.specs.Candidates.{noCandidate}
 use Rattle.record.specs.declared.Saved.{Saved}
 use Rattle.record.specs.declared.Saved.the-variants.{Size, Refused}
-use Rattle.record.specs.Write.{actionBytes}
-use Rattle.record.proofs.Stores.{wrote}
+use Rattle.wire.specs.Fields.{actionBytes}
+use Rattle.wire.proofs.Stores.{wrote}
 use Rattle.record.proofs.Writing.{action-count}
 use Rattle.record.proofs.CallWays.{stored}
 use Rattle.host_lists.specs.Lists.{listBytes, listFits, listAfter}

@@ -20,7 +20,7 @@ use Rattle.trainer.proofs.Product.{candidates-are}
 use Rattle.trainer.proofs.AcceptedFacts.{scoring-ask, scoring-try, leaf-slot, action-valid, k-listed, try-holds}
 use Rattle.record.specs.declared.Saved.{Saved}
 use Rattle.record.specs.declared.Saved.the-variants.{Size, Refused}
-use Rattle.record.specs.Read.{actionAt}
+use Rattle.wire.specs.Fields.{actionAt}
 use Rattle.host_lists.specs.Lists.{listFits, listAfter, askedInARow}
 use Rattle.host_lists.specs.Parts.{productOf, Few, ownPart, rowOf, candidatesWith}
 use Rattle.host_lists.proofs.Listing.{Wrote, wrote-as, list-empty}

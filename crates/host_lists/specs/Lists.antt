@@ -4,6 +4,7 @@ use mathlib.Core.List.{List, [], _∷_, _++_}
 use Prim.Native.Nat.{ℕ, _*_}
 use lib.ListN.{length, drop}
 use lib.Dec.{eqb, leb}
+use Rattle.refusal.specs.Numbers.{badLength, badSettings, notAdmitted, shortBuffer}
 use Rattle.remy.specs.declared.action.Action.{Action}
 use Rattle.remy.specs.Action.{validOf}
 use Rattle.rule_tree.specs.Equal.{treesEqual}
@@ -14,8 +15,9 @@ use Rattle.trainer.specs.Candidates.{candidatesOf}
 use Rattle.trainer.specs.State.{leafAction}
 use Rattle.record.specs.declared.Saved.{Saved}
 use Rattle.record.specs.declared.Saved.the-variants.{Size, Refused}
-use Rattle.record.specs.Write.{actionBytes}
-use Rattle.record.specs.Read.{actionAt, settingsAt}
+use Rattle.wire.specs.Fields.{actionBytes}
+use Rattle.wire.specs.Fields.{actionAt}
+use Rattle.record.specs.Read.{settingsAt}
 use Rattle.host_trainer.specs.Records.{settingsWhole}
 
 -- 20 bytes an action
@@ -25,7 +27,7 @@ listBytes (a ∷ xs) = actionBytes a ++ listBytes xs
 
 -- a buffer too short for 20 bytes an action: 9
 unfoldable pub listFits : List Action → List ℕ → Saved
-listFits xs out = cond (leb (20 * length xs) (length out)) (Size (20 * length xs)) (Refused 9)
+listFits xs out = cond (leb (20 * length xs) (length out)) (Size (20 * length xs)) (Refused shortBuffer)
 
 -- the buffer after it; a refused call changes no byte
 unfoldable pub listAfter : List Action → List ℕ → Saved → List ℕ
@@ -39,8 +41,8 @@ candidatesFor settings action = candidatesOf (settingsAt settings 0) (actionAt a
 unfoldable pub candidatesIn : List ℕ → List ℕ → List ℕ → Saved
 candidatesIn settings action out =
     cond (settingsWhole settings && settingsHold (settingsAt settings 0))
-    (cond (eqb (length action) 20) (cond (validOf (actionAt action 0)) (listFits (candidatesFor settings action) out) (Refused 1)) (Refused 6))
-    (Refused 2)
+    (cond (eqb (length action) 20) (cond (validOf (actionAt action 0)) (listFits (candidatesFor settings action) out) (Refused notAdmitted)) (Refused badLength))
+    (Refused badSettings)
 
 abbrev pub candidatesAfter : List ℕ → List ℕ → List ℕ → List ℕ
 candidatesAfter settings action out = listAfter (candidatesFor settings action) out (candidatesIn settings action out)

@@ -6,13 +6,14 @@ use lib.ListN.{length, drop}
 use lib.Dec.{eqb}
 use lib.IntN.{ℤ}
 use lib.Ieee.{Float}
+use Rattle.refusal.specs.Numbers.{badLength, notAdmitted}
 use Rattle.remy.specs.declared.action.Action.{Action}
 use Rattle.remy.specs.Action.{actionOf, validOf}
 use Rattle.trainer.specs.declared.settings.Settings.{Settings}
 use Rattle.trainer.specs.Candidates.{flatMap, candidatesOf}
 use Rattle.record.specs.declared.Saved.{Saved}
 use Rattle.record.specs.declared.Saved.the-variants.{Refused}
-use Rattle.record.specs.Read.{actionAt}
+use Rattle.wire.specs.Fields.{actionAt}
 use Rattle.host_lists.specs.Lists.{listFits}
 
 -- the product of three axes, the first outermost
@@ -36,4 +37,4 @@ rowOf own a from xs = ownPart own a ++ drop from xs
 -- what the candidate call answers of settings that were tested
 unfoldable pub candidatesWith : Settings → List ℕ → List ℕ → Saved
 candidatesWith s action out =
-    cond (eqb (length action) 20) (cond (validOf (actionAt action 0)) (listFits (candidatesOf s (actionAt action 0)) out) (Refused 1)) (Refused 6)
+    cond (eqb (length action) 20) (cond (validOf (actionAt action 0)) (listFits (candidatesOf s (actionAt action 0)) out) (Refused notAdmitted)) (Refused badLength)

@@ -4,7 +4,7 @@ ghost use Rattle.record.specs.Calls.{loadOf};
 ghost use Rattle.host_lists.specs.Lists.{candidatesIn, candidatesAfter, rowIn, rowAfter, equalIn};
 use crate::inner::rows;
 use record::Saved;
-use record::inner::read;
+use wire::inner::read;
 
 pub mod inner;
 
@@ -14,13 +14,13 @@ pub fn candidates(settings: &[u8], action: &[u8], out: &mut [u8]) -> Saved
 {
     if settings.len() == 113 {
         if read::byte_at(settings, 12) <= 1 {
-            let s = read::settings_at(settings, 0);
+            let s = record::inner::read::settings_at(settings, 0);
             if s.hold() {
                 return rows::candidates_with(s, action, out);
             }
         }
     }
-    Saved::Refused(2)
+    Saved::Refused(refusal::BAD_SETTINGS)
 }
 
 // The actions whose scores the trainer of a record asks for in a row, 20 bytes each.

@@ -1,7 +1,6 @@
 pub mod Reading
 pub mod Writing
 pub mod Running
-pub mod Asking
 pub mod NewWays
 pub mod EventWays
 pub mod Whole

@@ -10,8 +10,8 @@ use Rattle.quantities.specs.declared.Time.{Time}
 use Rattle.quantities.specs.Time.{span, moment}
 use Rattle.remy.specs.declared.action.Action.{Action}
 use Rattle.rule_tree.proofs.Ways.{via-true, via-false}
-use Rattle.record.specs.Bytes.{numberAt}
-use Rattle.record.specs.Read.{floatAt, actionAt, flagAt}
+use Rattle.wire.specs.Bytes.{numberAt}
+use Rattle.wire.specs.Fields.{floatAt, actionAt, flagAt}
 use Rattle.sender.specs.declared.Moment.{Moment}
 use Rattle.sender.specs.declared.Moment.the-variants as held
 use Rattle.sender.specs.declared.Average.{Average}

@@ -8,9 +8,9 @@ use lib.ListN.{length, replicate}
 use Rattle.quantities.specs.Time.{span, moment}
 use Rattle.remy.specs.declared.action.Action.{Action}
 use Rattle.rule_tree.proofs.Plain.{ActionFits}
-use Rattle.record.specs.Bytes.{bytesOf}
-use Rattle.record.specs.Write.{floatBytes, actionBytes}
-use Rattle.record.proofs.Bytes.{bytes-count}
+use Rattle.wire.specs.Bytes.{bytesOf}
+use Rattle.wire.specs.Fields.{floatBytes, actionBytes}
+use Rattle.wire.proofs.Bytes.{bytes-count}
 use Rattle.record.proofs.Stands.{Stands, stands-all, first, next, onward, number-back, byte-back, float-back, action-back}
 use Rattle.sender.specs.declared.Moment.{Moment}
 use Rattle.sender.specs.declared.Moment.the-variants as held

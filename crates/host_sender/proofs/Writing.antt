@@ -8,13 +8,12 @@ use lib.ListN.{length, set, length-append}
 use lib.Seq.{sets}
 use Rattle.quantities.specs.declared.Time.{Time}
 use Rattle.quantities.specs.declared.TimeSpan.{TimeSpan}
-use Rattle.quantities.specs.Time.{span}
 use Rattle.remy.specs.declared.action.Action.{Action}
-use Rattle.record.specs.Bytes.{bytesOf}
-use Rattle.record.specs.Write.{floatBytes, actionBytes}
-use Rattle.record.proofs.Bytes.{bytes-count}
-use Rattle.record.proofs.Stores.{wrote}
-use Rattle.record.proofs.Writing.{three, five}
+use Rattle.wire.specs.Bytes.{bytesOf}
+use Rattle.wire.specs.Fields.{floatBytes, actionBytes}
+use Rattle.wire.proofs.Bytes.{bytes-count}
+use Rattle.wire.proofs.Stores.{wrote}
+use Rattle.wire.proofs.Fields.{three, five}
 use Rattle.sender.specs.declared.Moment.{Moment}
 use Rattle.sender.specs.declared.Moment.the-variants as held
 use Rattle.sender.specs.declared.Average.{Average}
@@ -80,10 +79,10 @@ module _ (l : List ℕ) (at : ℕ) {r : List ℕ} where
   unfolding momentBytes bytesOf
   moment-none e q = rw e q
 
-  pub moment-there : {m : Moment} (t : Time) {s : TimeSpan} → m ≡ held.At t → s ≡ span (t .0) → r ≡ sets l at (1 ∷ floatBytes (s .0))
+  pub moment-there : {m : Moment} (t : Time) {x : Float} → m ≡ held.At t → x ≡ t .0 → r ≡ sets l at (1 ∷ floatBytes x)
       → r ≡ sets l at (momentBytes m)
   unfolding momentBytes
-  moment-there t e p q = rw e (q ∙ ap (λ (z : TimeSpan). sets l at (1 ∷ floatBytes (z .0))) p)
+  moment-there t e p q = rw e (q ∙ ap (λ (z : Float). sets l at (1 ∷ floatBytes z)) p)
 
   pub average-none : {a : Average} → a ≡ averaged.Empty → r ≡ sets l at (bytesOf 9 0) → r ≡ sets l at (averageBytes a)
   unfolding averageBytes bytesOf

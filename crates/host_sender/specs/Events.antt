@@ -1,37 +1,43 @@
 -- Acks, sends and ticks, many at once, on a sender kept in 108 bytes, over the tree of a record's trainer.
-use mathlib.Core.Bool.{Bool, cond}
+use mathlib.Core.Bool.{cond}
 use mathlib.Core.List.{List, [], _∷_, _++_}
 use Prim.Native.Nat.{ℕ, zero, suc, _+_, _*_, _/_, _%_}
 use lib.ListN.{length, drop, getD}
 use lib.Dec.{eqb, leb}
+use Rattle.refusal.specs.Numbers.{badLength, shortBuffer}
 use Rattle.rule_tree.specs.declared.RuleTree.{RuleTree}
 use Rattle.trainer.specs.declared.Answered.{Answered}
-use Rattle.record.specs.Bytes.{bytesOf, numberAt}
-use Rattle.record.specs.Read.{floatAt}
+use Rattle.wire.specs.Bytes.{bytesOf, numberAt}
+use Rattle.wire.specs.Fields.{floatAt}
 use Rattle.record.specs.Calls.{loadOf}
 use Rattle.record.specs.declared.Saved.{Saved}
 use Rattle.record.specs.declared.Saved.the-variants as saved
 use Rattle.sender.specs.declared.Draw.{Draw}
 use Rattle.sender.specs.declared.Draw.the-variants.{Absent, Given}
+use Rattle.sender.specs.declared.Event.{Event}
+use Rattle.sender.specs.declared.Event.the-variants.{Ack, Send, Tick}
 use Rattle.sender.specs.declared.Sender.{Sender}
 use Rattle.sender.specs.declared.Reply.{Reply}
 use Rattle.sender.specs.declared.Reply.the-variants as reply
-use Rattle.sender.specs.Sender.{ackOf, sendOf, tickOf}
-use Rattle.sender.specs.Run.{leftBy}
+use Rattle.sender.specs.SenderCall.{on}
+use Rattle.sender.specs.Sender.{repliedTo, leftBy}
 use Rattle.host_sender.specs.Layout.{senderBytes, senderAt}
 
 -- an event in 22 bytes: code (0 ack, 1 send, any other tick), sent 8, received 8, draw flag, u32 draw; a send's moment is sent
 abbrev pub drawAt : List ℕ → ℕ → Draw
 drawAt bytes at = cond (eqb (getD bytes at 0) 1) (Given (numberAt bytes (at + 1) 4)) Absent
 
-unfoldable pub eventOn : RuleTree → Sender → List ℕ → ℕ → Reply
-eventOn t s events at =
-    cond (eqb (getD events at 0) 0) (ackOf t s (floatAt events (at + 1)) (floatAt events (at + 9)) (drawAt events (at + 17)))
-    (cond (eqb (getD events at 0) 1) (sendOf s (floatAt events (at + 1))) (reply.Taken (tickOf s)))
+unfoldable pub eventAt : List ℕ → ℕ → Event
+eventAt events at =
+    cond (eqb (getD events at 0) 0) (Ack (floatAt events (at + 1)) (floatAt events (at + 9)) (drawAt events (at + 17)))
+    (cond (eqb (getD events at 0) 1) (Send (floatAt events (at + 1))) Tick)
+
+abbrev pub eventOn : RuleTree → Sender → List ℕ → ℕ → Reply
+eventOn t s events at = repliedTo s (on t (eventAt events at))
 
 -- the sender after the first n events; a refused one changes nothing
 unfoldable pub senderAfter : RuleTree → Sender → List ℕ → ℕ → Sender
-unfolding eventOn
+unfolding eventAt repliedTo on leftBy
 senderAfter t s events zero = s
 senderAfter t s events (suc n) =
     let u = senderAfter t s events n in leftBy u (eventOn t u events (22 * n))
@@ -56,9 +62,9 @@ eventsIn a sender events out =
     cond (eqb (a .refused) 0)
     (cond (eqb (length sender) 108)
     (cond (eqb (length events % 22) 0)
-    (cond (leb (5 * eventCount events) (length out)) (saved.Size (5 * eventCount events)) (saved.Refused 9))
-    (saved.Refused 6))
-    (saved.Refused 6))
+    (cond (leb (5 * eventCount events) (length out)) (saved.Size (5 * eventCount events)) (saved.Refused shortBuffer))
+    (saved.Refused badLength))
+    (saved.Refused badLength))
     (saved.Refused (a .refused))
 
 abbrev pub events : List ℕ → List ℕ → List ℕ → List ℕ → Saved

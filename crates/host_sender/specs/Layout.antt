@@ -5,10 +5,11 @@ use Prim.Native.Nat.{ℕ, _+_}
 use lib.ListN.{length, getD, drop, replicate}
 use lib.Dec.{eqb, leb}
 use lib.Ieee.{Float}
+use Rattle.refusal.specs.Numbers.{badSettings, shortBuffer}
 use Rattle.quantities.specs.Time.{span, moment}
-use Rattle.record.specs.Bytes.{bytesOf, numberAt}
-use Rattle.record.specs.Write.{floatBytes, actionBytes}
-use Rattle.record.specs.Read.{floatAt, actionAt}
+use Rattle.wire.specs.Bytes.{bytesOf, numberAt}
+use Rattle.wire.specs.Fields.{floatBytes, actionBytes}
+use Rattle.wire.specs.Fields.{floatAt, actionAt}
 use Rattle.record.specs.declared.Saved.{Saved}
 use Rattle.record.specs.declared.Saved.the-variants as saved
 use Rattle.sender.specs.declared.Moment.{Moment}
@@ -101,12 +102,12 @@ unfoldable pub modeWhole : List ℕ → Bool
 modeWhole bytes = eqb (length bytes) 9 && leb (getD bytes 0 0) 2
 
 unfoldable pub fitted : Made → List ℕ → Saved
-fitted (made.Ready s) out = cond (leb 108 (length out)) (saved.Size 108) (saved.Refused 9)
+fitted (made.Ready s) out = cond (leb 108 (length out)) (saved.Size 108) (saved.Refused shortBuffer)
 fitted (made.Refused k) out = saved.Refused k
 
 unfoldable pub newIn : List ℕ → List ℕ → Saved
 unfolding modeWhole fitted
-newIn mode out = cond (modeWhole mode) (fitted (newOf (modeAt mode 0)) out) (saved.Refused 2)
+newIn mode out = cond (modeWhole mode) (fitted (newOf (modeAt mode 0)) out) (saved.Refused badSettings)
 
 unfoldable pub readyBytes : Made → List ℕ
 unfolding senderBytes

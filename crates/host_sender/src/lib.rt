@@ -22,7 +22,7 @@ pub fn new(mode: &[u8], out: &mut [u8]) -> Saved
             Made::Refused(k) => Saved::Refused(k),
         };
     }
-    Saved::Refused(2)
+    Saved::Refused(refusal::BAD_SETTINGS)
 }
 
 // Takes the events in a list, over the tree of a record's trainer: the sender's bytes become the sender after them, and out gets

@@ -2,8 +2,6 @@ pub mod RecordWays
 pub mod QuestionWays
 pub mod LookupWays
 pub mod SpotWays
-pub mod TreesFit
-pub mod StepsFit
 pub mod Runs
 pub mod UndoWays
 pub mod UndoLaws

@@ -27,11 +27,11 @@ use Rattle.rule_tree.proofs.Changing.{action-grown}
 use Rattle.trainer.specs.declared.Answered.{Answered}
 use Rattle.record.specs.declared.Saved.{Saved}
 use Rattle.record.specs.declared.Saved.the-variants.{Size, Refused}
-use Rattle.record.specs.Bytes.{bytesOf, valueFrom, numberAt}
-use Rattle.record.specs.Write.{actionBytes}
-use Rattle.record.specs.Read.{floatAt, actionAt}
+use Rattle.wire.specs.Bytes.{bytesOf, valueFrom, numberAt}
+use Rattle.wire.specs.Fields.{actionBytes}
+use Rattle.wire.specs.Fields.{floatAt, actionAt}
 use Rattle.record.specs.Calls.{loadOf}
-use Rattle.record.proofs.Stores.{wrote}
+use Rattle.wire.proofs.Stores.{wrote}
 use Rattle.record.proofs.Writing.{action-count}
 use Rattle.record.proofs.CallWays.{stored}
 use Rattle.record.proofs.Loading.{accepted-grown, load-again}

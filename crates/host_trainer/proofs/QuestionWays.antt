@@ -17,11 +17,11 @@ use Rattle.trainer.specs.declared.Question.the-variants as question
 use Rattle.trainer.specs.Calls.{questionOf}
 use Rattle.record.specs.declared.Saved.{Saved}
 use Rattle.record.specs.declared.Saved.the-variants.{Size, Refused}
-use Rattle.record.specs.Bytes.{bytesOf}
-use Rattle.record.specs.Write.{actionBytes}
+use Rattle.wire.specs.Bytes.{bytesOf}
+use Rattle.wire.specs.Fields.{actionBytes}
 use Rattle.record.specs.Calls.{loadOf}
-use Rattle.record.proofs.Bytes.{bytes-count}
-use Rattle.record.proofs.Writing.{four}
+use Rattle.wire.proofs.Bytes.{bytes-count}
+use Rattle.wire.proofs.Fields.{four}
 use Rattle.record.proofs.CallWays.{stored}
 use Rattle.host_trainer.specs.Questions.{questionBytes, fitted, questionIn, questionAfter, askedIn, askedAfter}
 use Rattle.host_trainer.specs.Parts.{questionFields, fieldsFit, fieldsAfter, questionPut}

@@ -19,7 +19,7 @@ use Rattle.trainer.specs.Phases.{refuse}
 use Rattle.trainer.specs.Calls.{blankTrainer, startOf, answerCountsOf, answerScoreOf}
 use Rattle.record.specs.declared.Saved.{Saved}
 use Rattle.record.specs.declared.Saved.the-variants.{Refused}
-use Rattle.record.specs.Bytes.{numberAt}
+use Rattle.wire.specs.Bytes.{numberAt}
 use Rattle.record.specs.Read.{settingsAt}
 use Rattle.record.specs.Calls.{saveOf, bufferAfter, loadOf}
 use Rattle.host_trainer.specs.Records.{settingsWhole, startIn, onTrainer, countsIn, countsAnswered, scoreAnswered, writtenOf, recordAfter}

@@ -30,8 +30,9 @@ use Rattle.host_trainer.specs.Questions.{fitted, questionIn, questionAft
 use Rattle.host_trainer.specs.Parts.{questionPut}
 use Rattle.host_trainer.specs.Runs.{Answer, counts, score, Call, Seen, hostAnswer, numberOf, heldAfter, hostNext, hostSees, hostRun, valueAnswer, valueTaken, valueCall, valueSees, valueRun}
 use Rattle.host_trainer.proofs.QuestionWays.{put-after}
-use Rattle.record.proofs.BytesFit.{Bytes, settings-fits, loaded-fits}
-use Rattle.host_trainer.proofs.StepsFit.{started-fits, counted-fits, scored-fits}
+use Rattle.record.proofs.NumbersAgain.{Bytes}
+use Rattle.record.proofs.BytesFit.{settings-fits, loaded-fits}
+use Rattle.record.proofs.StepsFit.{started-fits, counted-fits, scored-fits}
 
 clash : {A : Type 0} {n k : ℕ} → _≡_ {A = Saved} (Refused k) (Size n) → A
 clash e = absurd (let z : _≡_ {A = ℕ} 0 1 = cc in omega arith)

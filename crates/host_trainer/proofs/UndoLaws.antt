@@ -9,7 +9,7 @@ use native.Mathlib.Omega.{arith}
 use borrow.Author.Tests.{ltb-true}
 use lib.Dec.{eqb, ltb, leb}
 use lib.ListN.{length}
-use Rattle.quantities.specs.Guards.{test, guarded}
+use Rattle.refusal.specs.Guards.{test, guarded}
 use Rattle.rule_tree.specs.declared.Node.{Node}
 use Rattle.rule_tree.specs.declared.RuleTree.{RuleTree}
 use Rattle.rule_tree.specs.Nodes.{nodeAt, nodeCount}
@@ -29,9 +29,10 @@ use Rattle.trainer.specs.Phases.{taken}
 use Rattle.record.specs.declared.Saved.the-variants.{Size, Refused}
 use Rattle.record.specs.Write.{recordOf}
 use Rattle.record.specs.Calls.{saveOf, loadOf}
-use Rattle.record.proofs.Bytes.{never}
+use Rattle.wire.proofs.Bytes.{never}
 use Rattle.record.proofs.RoundTrip.{TrainerFits}
-use Rattle.record.proofs.BytesFit.{Bytes, loaded-fits}
+use Rattle.record.proofs.NumbersAgain.{Bytes}
+use Rattle.record.proofs.BytesFit.{loaded-fits}
 use Rattle.record.proofs.Loading.{accepted-grown, load-again, load-saved}
 use Rattle.host_trainer.specs.Records.{onTrainer, writtenOf}
 use Rattle.host_trainer.specs.Undone.{withTree, leafStays, undoneTrainer, undoneIn}

@@ -4,6 +4,7 @@ use mathlib.Core.List.{List, [], _∷_, _++_}
 use Prim.Native.Nat.{ℕ, zero, suc, _+_, _*_, _/_, _%_}
 use lib.ListN.{length, drop, replicate}
 use lib.Dec.{eqb, leb}
+use Rattle.refusal.specs.Numbers.{badLength, noLeaf, notAdmitted, shortBuffer}
 use Rattle.remy.specs.declared.action.Action.{Action}
 use Rattle.remy.specs.declared.point.Point.{Point}
 use Rattle.remy.specs.Action.{validOf}
@@ -16,8 +17,8 @@ use Rattle.trainer.specs.declared.Trainer.{Trainer}
 use Rattle.trainer.specs.declared.Answered.{Answered}
 use Rattle.record.specs.declared.Saved.{Saved}
 use Rattle.record.specs.declared.Saved.the-variants.{Size, Refused}
-use Rattle.record.specs.Write.{actionBytes}
-use Rattle.record.specs.Read.{floatAt, actionAt}
+use Rattle.wire.specs.Fields.{actionBytes}
+use Rattle.wire.specs.Fields.{floatAt, actionAt}
 use Rattle.record.specs.Calls.{loadOf}
 
 -- a point in 24 bytes: ack, send, ratio
@@ -43,8 +44,8 @@ pointCount points = length points / 24
 unfoldable pub sized : List ℕ → List ℕ → Saved
 sized points out =
     cond (eqb (length points % 24) 0)
-    (cond (leb (21 * pointCount points) (length out)) (Size (21 * pointCount points)) (Refused 9))
-    (Refused 6)
+    (cond (leb (21 * pointCount points) (length out)) (Size (21 * pointCount points)) (Refused shortBuffer))
+    (Refused badLength)
 
 -- lookup: 6, 7, 8 of the record, then 6, 9
 unfoldable pub lookupsIn : Answered → List ℕ → List ℕ → Saved
@@ -69,8 +70,8 @@ unfolding sized
 replacedIn a leaf action points out =
     cond (eqb (a .refused) 0)
     (cond (leafIn (a .trainer .tree) leaf)
-    (cond (eqb (length action) 20) (cond (validOf (actionAt action 0)) (sized points out) (Refused 1)) (Refused 6))
-    (Refused 3))
+    (cond (eqb (length action) 20) (cond (validOf (actionAt action 0)) (sized points out) (Refused notAdmitted)) (Refused badLength))
+    (Refused noLeaf))
     (Refused (a .refused))
 
 abbrev pub replaced : List ℕ → ℕ → List ℕ → List ℕ → List ℕ → Saved

@@ -5,6 +5,7 @@ use Prim.Native.Nat.{ℕ, _/_, _%_}
 use lib.ListN.{length, drop}
 use lib.Dec.{T, eqb, leb}
 use lib.Ieee.{Float}
+use Rattle.refusal.specs.Numbers.{badLength, noLeaf, notAdmitted, shortBuffer}
 use Rattle.remy.specs.declared.action.Action.{Action}
 use Rattle.remy.specs.declared.point.Point.{Point}
 use Rattle.remy.specs.declared.cube.Cube.{Cube}
@@ -19,9 +20,9 @@ use Rattle.rule_tree.specs.Calls.{leafIn, replacedOf}
 use Rattle.trainer.specs.declared.Question.{Question}
 use Rattle.record.specs.declared.Saved.{Saved}
 use Rattle.record.specs.declared.Saved.the-variants.{Size, Refused}
-use Rattle.record.specs.Bytes.{bytesOf}
-use Rattle.record.specs.Write.{floatBytes, actionBytes}
-use Rattle.record.specs.Read.{actionAt}
+use Rattle.wire.specs.Bytes.{bytesOf}
+use Rattle.wire.specs.Fields.{floatBytes, actionBytes}
+use Rattle.wire.specs.Fields.{actionAt}
 use Rattle.host_trainer.specs.declared.inner.lookups.Spot.{Spot}
 use Rattle.host_trainer.specs.Questions.{questionBytes}
 use Rattle.host_trainer.specs.Lookups.{sized}
@@ -35,7 +36,7 @@ abbrev pub questionFields : ℕ → ℕ → Action → Float → List ℕ
 questionFields kind leaf a progress = kind ∷ (bytesOf 2 leaf ++ (actionBytes a ++ floatBytes progress))
 
 abbrev pub fieldsFit : List ℕ → Saved
-fieldsFit out = cond (leb 31 (length out)) (Size 31) (Refused 9)
+fieldsFit out = cond (leb 31 (length out)) (Size 31) (Refused shortBuffer)
 
 abbrev pub fieldsAfter : List ℕ → List ℕ → List ℕ
 fieldsAfter fields out = cond (leb 31 (length out)) (fields ++ drop 31 out) out
@@ -50,8 +51,8 @@ unfoldable pub replacedFor : RuleTree → ℕ → List ℕ → List ℕ → List
 unfolding sized
 replacedFor t leaf action points out =
     cond (leafIn t leaf)
-    (cond (eqb (length action) 20) (cond (validOf (actionAt action 0)) (sized points out) (Refused 1)) (Refused 6))
-    (Refused 3)
+    (cond (eqb (length action) 20) (cond (validOf (actionAt action 0)) (sized points out) (Refused notAdmitted)) (Refused badLength))
+    (Refused noLeaf)
 
 abbrev pub replacedLook : RuleTree → ℕ → List ℕ → Point → Looked
 replacedLook t leaf action p = replacedOf (record { tree = t; leaf = leaf; action = actionAt action 0 }) p

@@ -4,6 +4,7 @@ use mathlib.Core.List.{List, [], _∷_, _++_}
 use Prim.Native.Nat.{ℕ}
 use lib.ListN.{length, drop}
 use lib.Dec.{eqb, leb}
+use Rattle.refusal.specs.Numbers.{shortBuffer}
 use Rattle.rule_tree.specs.Nodes.{noAction}
 use Rattle.trainer.specs.declared.Answered.{Answered}
 use Rattle.trainer.specs.declared.Question.{Question}
@@ -11,8 +12,8 @@ use Rattle.trainer.specs.declared.Question.the-variants as question
 use Rattle.trainer.specs.Calls.{questionOf}
 use Rattle.record.specs.declared.Saved.{Saved}
 use Rattle.record.specs.declared.Saved.the-variants.{Size, Refused}
-use Rattle.record.specs.Bytes.{bytesOf}
-use Rattle.record.specs.Write.{floatBytes, actionBytes}
+use Rattle.wire.specs.Bytes.{bytesOf}
+use Rattle.wire.specs.Fields.{floatBytes, actionBytes}
 use Rattle.record.specs.Calls.{loadOf}
 
 -- kind (1 counts, 2 score, 3 done), u16 leaf, action 20, progress 8; leaf and action are 0 where a score isn't asked for
@@ -23,9 +24,9 @@ questionBytes (question.Done x) = 3 ∷ (bytesOf 2 0 ++ (actionBytes noAction ++
 questionBytes (question.Refused k) = []
 
 unfoldable pub fitted : Question → List ℕ → Saved
-fitted (question.Counts x) out = cond (leb 31 (length out)) (Size 31) (Refused 9)
-fitted (question.Score i a x) out = cond (leb 31 (length out)) (Size 31) (Refused 9)
-fitted (question.Done x) out = cond (leb 31 (length out)) (Size 31) (Refused 9)
+fitted (question.Counts x) out = cond (leb 31 (length out)) (Size 31) (Refused shortBuffer)
+fitted (question.Score i a x) out = cond (leb 31 (length out)) (Size 31) (Refused shortBuffer)
+fitted (question.Done x) out = cond (leb 31 (length out)) (Size 31) (Refused shortBuffer)
 fitted (question.Refused k) out = Refused k
 
 -- 6, 7, 8, 9

@@ -5,6 +5,7 @@ use Prim.Native.Nat.{ℕ, _*_, _/_, _%_}
 use lib.ListN.{length, getD}
 use lib.Dec.{eqb, leb}
 use lib.Ieee.{binary64, ofBits}
+use Rattle.refusal.specs.Numbers.{badSettings}
 use Rattle.rule_tree.specs.Lists.{tabulate}
 use Rattle.trainer.specs.declared.Trainer.{Trainer}
 use Rattle.trainer.specs.declared.Answered.{Answered}
@@ -12,7 +13,7 @@ use Rattle.trainer.specs.Phases.{refuse}
 use Rattle.trainer.specs.Calls.{blankTrainer, startOf, answerCountsOf, answerScoreOf}
 use Rattle.record.specs.declared.Saved.{Saved}
 use Rattle.record.specs.declared.Saved.the-variants.{Size, Refused}
-use Rattle.record.specs.Bytes.{numberAt}
+use Rattle.wire.specs.Bytes.{numberAt}
 use Rattle.record.specs.Read.{settingsAt}
 use Rattle.record.specs.Calls.{saveOf, bufferAfter, loadOf}
 
@@ -22,7 +23,7 @@ settingsWhole bytes = eqb (length bytes) 113 && leb (getD bytes 12 0) 1
 
 unfoldable pub startIn : List ℕ → Answered
 unfolding settingsWhole
-startIn bytes = cond (settingsWhole bytes) (startOf (settingsAt bytes 0)) (refuse 2 blankTrainer)
+startIn bytes = cond (settingsWhole bytes) (startOf (settingsAt bytes 0)) (refuse badSettings blankTrainer)
 
 -- what is done to the trainer of a record: 6, 7, 8, then the call's own refusals
 unfoldable pub onTrainer : Answered → (Trainer → Answered) → Answered

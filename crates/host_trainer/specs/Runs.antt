@@ -5,6 +5,7 @@ use Prim.Native.Nat.{ℕ}
 use lib.ListN.{length, take}
 use lib.Dec.{eqb, leb}
 use lib.Ieee.{binary64, ofBits}
+use Rattle.refusal.specs.Numbers.{shortBuffer}
 use Rattle.trainer.specs.declared.Trainer.{Trainer}
 use Rattle.trainer.specs.declared.Answered.{Answered}
 use Rattle.trainer.specs.Phases.{refuse}
@@ -72,7 +73,7 @@ valueAnswer t (score bits) = answerScoreOf t (ofBits binary64 bits)
 
 unfoldable pub valueTaken : Trainer → Answered → List ℕ → Answered
 valueTaken t a out =
-    cond (eqb (a .refused) 0) (cond (leb (length (recordOf (a .trainer))) (length out)) a (refuse 9 t)) (refuse (a .refused) t)
+    cond (eqb (a .refused) 0) (cond (leb (length (recordOf (a .trainer))) (length out)) a (refuse shortBuffer t)) (refuse (a .refused) t)
 
 abbrev pub valueCall : Trainer → Call → Answered
 valueCall t c = valueTaken t (valueAnswer t (c .answer)) (c .out)

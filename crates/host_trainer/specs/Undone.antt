@@ -3,7 +3,8 @@ use mathlib.Core.Bool.{Bool}
 use mathlib.Core.List.{List, [], _∷_}
 use Prim.Native.Nat.{ℕ, _+_}
 use lib.Dec.{ltb}
-use Rattle.quantities.specs.Guards.{test, guarded}
+use Rattle.refusal.specs.Numbers.{noLeaf, noSplit, notGrown}
+use Rattle.refusal.specs.Guards.{test, guarded}
 use Rattle.rule_tree.specs.declared.RuleTree.{RuleTree}
 use Rattle.rule_tree.specs.Nodes.{nodeCount}
 use Rattle.rule_tree.specs.Grown.{grownOf}
@@ -37,7 +38,7 @@ leafStays t = ltb (t .leaf + 8) (nodeCount (t .tree .splits))
 -- "The parent becomes a leaf with the action and mark it had when split": 10, "24, after 10 alone", then 3 where the trainer's leaf goes
 unfoldable pub undoneTrainer : Trainer → Answered
 undoneTrainer t =
-    guarded (test (grownOf (t .tree)) 10 ∷ test (ltb 0 (t .tree .splits)) 24 ∷ test (leafStays t) 3 ∷ [])
+    guarded (test (grownOf (t .tree)) notGrown ∷ test (ltb 0 (t .tree .splits)) noSplit ∷ test (leafStays t) noLeaf ∷ [])
     (λ k. refuse k t) (taken (withTree t (undone (t .tree))))
 
 -- of a record's trainer: 6, 7, 8 first

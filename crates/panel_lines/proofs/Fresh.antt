@@ -25,7 +25,7 @@ use Rattle.trainer.specs.State.{stand}
 use Rattle.trainer.specs.Phases.{beginStage, beginRound}
 use Rattle.trainer.specs.Calls.{started}
 use Rattle.trainer.proofs.Accepting.{start-held}
-use Rattle.record.specs.Bytes.{bytesOf, valueFrom}
+use Rattle.wire.specs.Bytes.{bytesOf, valueFrom}
 use Rattle.record.specs.Write.{recordOf}
 use Rattle.record.proofs.Stands.{SettingsFits}
 use Rattle.record.proofs.RoundTrip.{TrainerFits}

@@ -13,7 +13,7 @@ use Rattle.rule_tree.specs.declared.Node.{Node}
 use Rattle.rule_tree.specs.declared.RuleTree.{RuleTree}
 use Rattle.rule_tree.specs.Lists.{total}
 use Rattle.rule_tree.specs.Nodes.{nodeAt, nodeCount}
-use Rattle.record.proofs.Stores.{wrote}
+use Rattle.wire.proofs.Stores.{wrote}
 use Rattle.panel_lines.specs.Panel.{decimal, shareOf, leafLine, leafLines, firstLine, linesOf}
 use Rattle.panel_lines.specs.Parts.{Wrote, nodeLine}
 

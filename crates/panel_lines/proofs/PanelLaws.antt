@@ -17,7 +17,7 @@ use Rattle.rule_tree.specs.Counts.{countsHold}
 use Rattle.trainer.specs.declared.Answered.{Answered}
 use Rattle.trainer.specs.Phases.{refuse, taken}
 use Rattle.trainer.specs.Calls.{blankTrainer}
-use Rattle.record.specs.Bytes.{numberAt, valueFrom}
+use Rattle.wire.specs.Bytes.{numberAt, valueFrom}
 use Rattle.record.specs.Read.{readOf}
 use Rattle.record.specs.Calls.{lengthHolds, versionHolds, bodyHolds, loadOf}
 use Rattle.panel_lines.specs.declared.Shown.{Shown}

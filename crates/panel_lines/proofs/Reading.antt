@@ -10,7 +10,7 @@ use lib.Dec.{leb}
 use lib.ListN.{length, set, take}
 use lib.Seq.{take-suc-set}
 use Rattle.rule_tree.specs.Lists.{tabulate}
-use Rattle.record.specs.Bytes.{numberAt}
+use Rattle.wire.specs.Bytes.{numberAt}
 use Rattle.panel_lines.specs.Panel.{startHolds, countsIn}
 
 -- ---- the start

@@ -10,11 +10,11 @@ use lib.Seq.{take-at, drop-at}
 use Rattle.trainer.specs.declared.Trainer.{Trainer}
 use Rattle.trainer.specs.State.{acceptedOf}
 use Rattle.trainer.specs.Phases.{taken}
-use Rattle.record.specs.Bytes.{bytesOf, numberAt}
+use Rattle.wire.specs.Bytes.{bytesOf, numberAt}
 use Rattle.record.specs.Layout.{layoutOf}
 use Rattle.record.specs.Write.{version, bodyOf, recordIn, recordOf}
 use Rattle.record.specs.Calls.{loadOf}
-use Rattle.record.proofs.Bytes.{bytes-count, number-stands}
+use Rattle.wire.proofs.Bytes.{bytes-count, number-stands}
 use Rattle.record.proofs.Size.{record-small}
 use Rattle.record.proofs.RoundTrip.{TrainerFits}
 use Rattle.record.proofs.Loading.{accepted-grown, load-saved}

@@ -6,7 +6,7 @@ use native.Mathlib.Numerals.{add-one}
 use native.Mathlib.Omega.{arith}
 use lib.ListN.{length, getD, set, take, length-append}
 use lib.Seq.{sets, take-suc, take-all, length-take-le}
-use Rattle.record.proofs.Stores.{wrote}
+use Rattle.wire.proofs.Stores.{wrote}
 use Rattle.panel_lines.specs.Panel.{decimal}
 use Rattle.panel_lines.specs.Parts.{Wrote}
 use Rattle.panel_lines.proofs.Decimal.{decimal-one, decimal-more}

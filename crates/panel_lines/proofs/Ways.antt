@@ -16,7 +16,7 @@ use Rattle.rule_tree.proofs.Links.{grown-splits}
 use Rattle.rule_tree.proofs.Counting.{counts-accepted}
 use Rattle.trainer.specs.declared.Answered.{Answered}
 use Rattle.trainer.specs.Phases.{refuse}
-use Rattle.record.specs.Bytes.{numberAt}
+use Rattle.wire.specs.Bytes.{numberAt}
 use Rattle.record.specs.Calls.{loadOf}
 use Rattle.record.proofs.CallWays.{stored}
 use Rattle.record.proofs.Loading.{accepted-grown, load-again}

@@ -4,6 +4,7 @@ use mathlib.Core.List.{List, [], _∷_, _++_}
 use Prim.Native.Nat.{ℕ, zero, suc, _+_, _-_, _*_, _/_, _%_}
 use lib.ListN.{length, take, drop, getD}
 use lib.Dec.{eqb, leb, ltb}
+use Rattle.refusal.specs.Numbers.{badCounts, badLength, shortBuffer}
 use Rattle.rule_tree.specs.declared.Node.{Node}
 use Rattle.rule_tree.specs.declared.RuleTree.{RuleTree}
 use Rattle.rule_tree.specs.Lists.{tabulate, total}
@@ -11,7 +12,7 @@ use Rattle.rule_tree.specs.Nodes.{isLeaf, nodeCount}
 use Rattle.rule_tree.specs.Counts.{countsHold}
 use Rattle.trainer.specs.declared.Trainer.{Trainer}
 use Rattle.trainer.specs.declared.Answered.{Answered}
-use Rattle.record.specs.Bytes.{numberAt}
+use Rattle.wire.specs.Bytes.{numberAt}
 use Rattle.record.specs.Calls.{loadOf}
 use Rattle.panel_lines.specs.declared.Shown.{Shown}
 use Rattle.panel_lines.specs.declared.Shown.the-variants.{Size, Refused}
@@ -65,15 +66,15 @@ startHolds input = leb 4 (length input) && (leb (numberAt input 0 4) 16384 && le
 
 -- a list of lines that fits the lent buffer, or 9
 abbrev pub fitted : List ℕ → List ℕ → Shown
-fitted text out = cond (leb (length text) (length out)) (Size (length text)) (Refused 9)
+fitted text out = cond (leb (length text) (length out)) (Size (length text)) (Refused shortBuffer)
 
 -- 4: counts that are not one per node, above 0 at a parent, or over 2^53 in all
 unfoldable pub countsShown : RuleTree → List ℕ → List ℕ → Shown
 countsShown t bytes out =
     let counts = countsIn bytes (nodeCount (t .splits)) in
     cond (eqb (length bytes) (8 * nodeCount (t .splits)))
-    (cond (countsHold t counts) (fitted (linesOf t counts) out) (Refused 4))
-    (Refused 4)
+    (cond (countsHold t counts) (fitted (linesOf t counts) out) (Refused badCounts))
+    (Refused badCounts)
 
 -- 7, 8 as load has them, then 4
 unfoldable pub recordShown : Answered → List ℕ → List ℕ → Shown
@@ -83,7 +84,7 @@ recordShown a bytes out = cond (eqb (a .refused) 0) (countsShown (a .trainer .tr
 -- panel: 6, 7, 8, 4, and 9 for a buffer that is too short
 unfoldable pub panelOf : List ℕ → List ℕ → Shown
 unfolding startHolds recordShown
-panelOf input out = cond (startHolds input) (recordShown (loadOf (recordPart input)) (countsPart input) out) (Refused 6)
+panelOf input out = cond (startHolds input) (recordShown (loadOf (recordPart input)) (countsPart input) out) (Refused badLength)
 
 -- the buffer after: the lines, and then what it held; a refused panel changes no byte
 unfoldable pub outAfter : List ℕ → List ℕ → Shown → List ℕ

@@ -6,6 +6,7 @@ use Prim.Native.Nat.{ℕ, _+_, _≤_}
 use lib.ListN.{length, drop}
 use lib.Dec.{eqb}
 use lib.Seq.{sets}
+use Rattle.refusal.specs.Numbers.{badCounts}
 use Rattle.rule_tree.specs.declared.Node.{Node}
 use Rattle.rule_tree.specs.declared.RuleTree.{RuleTree}
 use Rattle.rule_tree.specs.Lists.{total}
@@ -42,7 +43,7 @@ pub record Lines (buf : List ℕ) (t : RuleTree) (xs : List ℕ) (all : ℕ) : T
 
 -- what a tree and its counts are shown as, and the buffer after
 abbrev pub linesShown : RuleTree → List ℕ → List ℕ → Shown
-linesShown t xs out = cond (countsHold t xs) (fitted (linesOf t xs) out) (Refused 4)
+linesShown t xs out = cond (countsHold t xs) (fitted (linesOf t xs) out) (Refused badCounts)
 
 unfoldable pub linesAfter : RuleTree → List ℕ → List ℕ → Shown → List ℕ
 linesAfter t xs out (Size n) = linesOf t xs ++ drop n out

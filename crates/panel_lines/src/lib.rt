@@ -25,5 +25,5 @@ pub fn panel(input: &[u8], out: &mut [u8]) -> Shown
         }
         return Shown::Refused(a.refused);
     }
-    Shown::Refused(6)
+    Shown::Refused(refusal::BAD_LENGTH)
 }

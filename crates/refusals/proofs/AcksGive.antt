@@ -28,10 +28,10 @@ use Rattle.sender.specs.declared.inner.acks.Drawn.{Drawn}
 use Rattle.sender.specs.Memory.{remembered, pointOf}
 use Rattle.sender.specs.Acks.{windowNow, drawn, repeatNext, settled, ackDrawn, ackWith, ackPending, ackAdmitted}
 use Rattle.sender.specs.Sender.{ackOf}
-use Rattle.sender.specs.Face.{windowFrom}
-use Rattle.sender.specs.Run.{leftBy}
+use Rattle.sender_face.specs.Face.{windowFrom}
+use Rattle.sender.specs.Sender.{leftBy}
 use Rattle.refusals.specs.Told.{Told, none, value, replyTold, answerTold}
-use Rattle.quantities.specs.Guards.{firstOf}
+use Rattle.refusal.specs.Guards.{firstOf}
 use Rattle.refusals.specs.Order.{passes, repeats, drawHolds, ackPoint, ackOrder}
 use Rattle.refusals.specs.Gives.{ackGives, actionUsed, ackWindow}
 use Rattle.refusals.proofs.Ways.{Gives, both}

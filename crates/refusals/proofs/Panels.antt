@@ -8,13 +8,14 @@ use borrow.Author.Tests.{leb-true, le-leb, eq-eqb}
 use lib.ListN.{length, drop}
 use lib.Seq.{take-take, length-take-le}
 use lib.Dec.{eqb, leb}
+use Rattle.rule_tree.proofs.Lists.{and-both}
 use Rattle.rule_tree.specs.declared.RuleTree.{RuleTree}
 use Rattle.rule_tree.specs.Nodes.{nodeCount}
 use Rattle.rule_tree.specs.Counts.{countsHold}
 use Rattle.rule_tree.proofs.Counting.{and-left, and-right}
 use Rattle.trainer.specs.Phases.{refuse, taken}
 use Rattle.trainer.specs.Calls.{blankTrainer}
-use Rattle.record.specs.Bytes.{valueFrom, numberAt}
+use Rattle.wire.specs.Bytes.{valueFrom, numberAt}
 use Rattle.record.specs.Read.{readOf}
 use Rattle.record.specs.Calls.{lengthHolds, versionHolds, bodyHolds, loadOf}
 use Rattle.panel_lines.specs.declared.Shown.{Shown}
@@ -22,7 +23,7 @@ use Rattle.panel_lines.specs.declared.Shown.the-variants.{Size, Refused}
 use Rattle.panel_lines.specs.Panel.{linesOf, recordPart, countsPart, countsIn, startHolds, countsShown, recordShown, panelOf, outAfter}
 use Rattle.panel_lines.proofs.Ways.{start-fits}
 use Rattle.refusals.specs.Told.{shownTold}
-use Rattle.quantities.specs.Guards.{firstOf}
+use Rattle.refusal.specs.Guards.{firstOf}
 use Rattle.refusals.specs.Order.{panelOrder}
 use Rattle.refusals.proofs.Ways.{next}
 
@@ -30,9 +31,6 @@ abbrev shows : Shown → ℕ
 shows r = shownTold r .number
 
 -- ---- a start that holds leaves the loader no 6: its part has the length that it says
-and-both : (a b : Bool) → a ≡ true → b ≡ true → a && b ≡ true
-and-both a b p q = rw (p, q)
-
 length-held : (bytes : List ℕ) (n : ℕ) → numberAt bytes 0 4 ≡ n → length bytes ≡ 4 + n → n ≤ 16384 → lengthHolds bytes ≡ true
 unfolding lengthHolds
 length-held bytes n e l h =

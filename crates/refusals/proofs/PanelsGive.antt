@@ -16,7 +16,7 @@ use Rattle.panel_lines.specs.declared.Shown.{Shown}
 use Rattle.panel_lines.specs.declared.Shown.the-variants.{Size, Refused}
 use Rattle.panel_lines.specs.Panel.{linesOf, recordPart, countsPart, countsIn, startHolds, countsShown, recordShown, panelOf}
 use Rattle.refusals.specs.Told.{Given, none, value, shownTold}
-use Rattle.quantities.specs.Guards.{firstOf}
+use Rattle.refusal.specs.Guards.{firstOf}
 use Rattle.refusals.specs.Order.{passes, panelOrder, panelTree}
 use Rattle.refusals.specs.Gives.{panelGives}
 use Rattle.refusals.proofs.Ways.{Gives, held}

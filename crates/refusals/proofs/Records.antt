@@ -10,10 +10,9 @@ use Rattle.trainer.specs.State.{acceptedOf}
 use Rattle.record.specs.declared.Saved.{Saved}
 use Rattle.record.specs.declared.Saved.the-variants.{Size, Refused}
 use Rattle.record.specs.Write.{recordOf}
-use Rattle.record.specs.Calls.{saveOf, bufferAfter, lengthHolds, versionHolds, bodyHolds, loadOf}
+use Rattle.record.specs.Calls.{saveOrder, loadOrder, saveOf, bufferAfter, lengthHolds, versionHolds, bodyHolds, loadOf}
 use Rattle.refusals.specs.Told.{savedTold}
-use Rattle.quantities.specs.Guards.{firstOf}
-use Rattle.refusals.specs.Order.{saveOrder, loadOrder}
+use Rattle.refusal.specs.Guards.{firstOf}
 use Rattle.refusals.proofs.Ways.{next}
 
 abbrev saves : Saved → ℕ

@@ -32,7 +32,7 @@ use Rattle.sender.specs.Memory.{remembered, pointOf}
 use Rattle.sender.specs.Acks.{drawn, ackDrawn, ackWith, ackPending, ackAdmitted}
 use Rattle.sender.specs.Sender.{modeHolds, newOf, ackOf, sendAdmitted, sendOf, wakeIn, wakeAdmitted, wakeOf}
 use Rattle.refusals.specs.Told.{admittedTold, madeTold, replyTold, wakeTold}
-use Rattle.quantities.specs.Guards.{firstOf}
+use Rattle.refusal.specs.Guards.{firstOf}
 use Rattle.refusals.specs.Order.{admitOrder, madeOrder, repeats, drawHolds, ackOrder, sendOrder, wakeOrder}
 use Rattle.refusals.proofs.Ways.{next}
 

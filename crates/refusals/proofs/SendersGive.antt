@@ -13,9 +13,9 @@ use Rattle.sender.specs.declared.Sender.{Sender}
 use Rattle.sender.specs.declared.Made.{Made}
 use Rattle.sender.specs.Acks.{windowIn}
 use Rattle.sender.specs.Sender.{modeHolds, newOf, sendAdmitted, sendOf, wakeIn, wakeAdmitted, wakeOf}
-use Rattle.sender.specs.Face.{windowFrom}
+use Rattle.sender_face.specs.Face.{windowFrom}
 use Rattle.refusals.specs.Told.{Told, none, admittedTold, madeTold, replyTold, wakeTold, answerTold}
-use Rattle.quantities.specs.Guards.{firstOf}
+use Rattle.refusal.specs.Guards.{firstOf}
 use Rattle.refusals.specs.Order.{passes, admitOrder, madeOrder, sendOrder, wakeOrder}
 use Rattle.refusals.specs.Gives.{admitGives, madeGives, sendGives, wakeAfter, wakeGives}
 use Rattle.refusals.proofs.Ways.{Gives, both}

@@ -8,10 +8,10 @@ use Rattle.sender.specs.declared.Sender.{Sender}
 use Rattle.sender.specs.declared.Reply.{Reply}
 use Rattle.sender.specs.declared.Reply.the-variants.{Taken, Refused}
 use Rattle.sender.specs.Sender.{ackOf, sendOf}
-use Rattle.sender.specs.Face.{windowFrom, senderFrom}
-use Rattle.sender.specs.Run.{leftBy}
+use Rattle.sender_face.specs.Face.{windowFrom}
+use Rattle.sender.specs.Sender.{leftBy}
 use Rattle.refusals.specs.Told.{Told, replyTold, answerTold}
-use Rattle.quantities.specs.Guards.{firstOf}
+use Rattle.refusal.specs.Guards.{firstOf}
 use Rattle.refusals.specs.Order.{ackOrder, sendOrder}
 use Rattle.refusals.proofs.Senders.{send-number, ack-number}
 
@@ -25,8 +25,8 @@ unfolding answerTold windowFrom replyTold
 face-told (Taken h) = refl
 face-told (Refused k) = refl
 
-face-keeps : (s : Sender) (r : Reply) → (answerTold (windowFrom r) .number ≡ 0 → ⊥) → senderFrom s r ≡ s
-unfolding answerTold windowFrom senderFrom
+face-keeps : (s : Sender) (r : Reply) → (answerTold (windowFrom r) .number ≡ 0 → ⊥) → leftBy s r ≡ s
+unfolding answerTold windowFrom leftBy
 face-keeps s (Taken h) n = absurd (n refl)
 face-keeps s (Refused k) n = refl
 
@@ -48,10 +48,10 @@ face-ack-number t s sent received draw =
     ap (λ (r : Told ℕ). r .number) (face-told (ackOf t s sent received draw)) ∙ ack-number t s sent received draw
 
 pub face-send-keeps :
-    (s : Sender) (at : Float) → (answerTold (windowFrom (sendOf s at)) .number ≡ 0 → ⊥) → senderFrom s (sendOf s at) ≡ s
+    (s : Sender) (at : Float) → (answerTold (windowFrom (sendOf s at)) .number ≡ 0 → ⊥) → leftBy s (sendOf s at) ≡ s
 face-send-keeps s at = face-keeps s (sendOf s at)
 
 pub face-ack-keeps :
     (t : RuleTree) (s : Sender) (sent received : Float) (draw : Draw)
-    → (answerTold (windowFrom (ackOf t s sent received draw)) .number ≡ 0 → ⊥) → senderFrom s (ackOf t s sent received draw) ≡ s
+    → (answerTold (windowFrom (ackOf t s sent received draw)) .number ≡ 0 → ⊥) → leftBy s (ackOf t s sent received draw) ≡ s
 face-ack-keeps t s sent received draw = face-keeps s (ackOf t s sent received draw)

@@ -16,13 +16,13 @@ use Rattle.trainer.specs.declared.Answered.{Answered}
 use Rattle.trainer.specs.declared.Question.{Question}
 use Rattle.trainer.specs.declared.candidates.Candidate.{Candidate}
 use Rattle.trainer.specs.Settings.{settingsHold}
-use Rattle.trainer.specs.Candidates.{candidatesOf, pickOf, candidateOf}
+use Rattle.trainer.specs.Candidates.{candidatesOf, pickOf, candidateOrder, candidateOf}
 use Rattle.trainer.specs.State.{acceptedOf}
 use Rattle.trainer.specs.Phases.{phase1, phase2}
-use Rattle.trainer.specs.Calls.{startOf, askedOf, questionOf, wantsCounts, wantsScore, countsStep, answerCountsOf, answerScoreOf}
+use Rattle.trainer.specs.Calls.{startOrder, questionOrder, scoreOrder, startOf, askedOf, questionOf, wantsCounts, wantsScore, countsStep, answerCountsOf, answerScoreOf}
 use Rattle.refusals.specs.Told.{candidateTold, questionTold}
-use Rattle.quantities.specs.Guards.{firstOf}
-use Rattle.refusals.specs.Order.{startOrder, questionOrder, splitsOn, answerCountsOrder, answerScoreOrder, candidateOrder}
+use Rattle.refusal.specs.Guards.{firstOf}
+use Rattle.refusals.specs.Order.{splitsOn, answerCountsOrder}
 use Rattle.refusals.proofs.Ways.{either, next}
 
 abbrev answers : Answered → ℕ
@@ -58,7 +58,7 @@ pub candidate-number : (s : Settings) (a : Action) (k : ℕ) → candidateTold (
 unfolding candidateOf candidateTold firstOf
 candidate-number s a k = next picks (settingsHold s) (next picks (validOf a) (pick-number (candidatesOf s a) k) refl) refl
 
-pub answer-score-number : (t : Trainer) (x : Float) → answerScoreOf t x .refused ≡ firstOf (answerScoreOrder t)
+pub answer-score-number : (t : Trainer) (x : Float) → answerScoreOf t x .refused ≡ firstOf (scoreOrder t)
 unfolding answerScoreOf firstOf
 answer-score-number t x = next answers (acceptedOf t) (next answers (wantsScore (t .phase)) refl refl) refl
 

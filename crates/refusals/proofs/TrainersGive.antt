@@ -15,15 +15,15 @@ use Rattle.trainer.specs.declared.Question.the-variants as question
 use Rattle.trainer.specs.declared.candidates.Candidate.{Candidate}
 use Rattle.trainer.specs.declared.candidates.Candidate.the-variants as candidate
 use Rattle.trainer.specs.Settings.{settingsHold}
-use Rattle.trainer.specs.Candidates.{candidatesOf, noCandidate, pickOf, candidateOf}
+use Rattle.trainer.specs.Candidates.{candidatesOf, noCandidate, pickOf, candidateOrder, candidateOf}
 use Rattle.trainer.specs.State.{acceptedOf, leafAction}
-use Rattle.trainer.specs.Calls.{progressOf, askedOf, questionOf}
+use Rattle.trainer.specs.Calls.{progressOf, askedOf, questionOrder, questionOf}
 use Rattle.record.specs.declared.Saved.{Saved}
 use Rattle.record.specs.Write.{recordOf}
-use Rattle.record.specs.Calls.{saveOf}
+use Rattle.record.specs.Calls.{saveOrder, saveOf}
 use Rattle.refusals.specs.Told.{none, value, counts, score, done, candidateTold, questionTold, savedTold}
-use Rattle.quantities.specs.Guards.{firstOf}
-use Rattle.refusals.specs.Order.{passes, questionOrder, candidateOrder, saveOrder}
+use Rattle.refusal.specs.Guards.{firstOf}
+use Rattle.refusals.specs.Order.{passes}
 use Rattle.refusals.specs.Gives.{questionGives, candidateGives, saveGives}
 use Rattle.refusals.proofs.Ways.{Gives, both}
 

@@ -7,13 +7,15 @@ use native.Mathlib.Omega.{arith}
 use borrow.Author.Tests.{eqb-true, eqb-false}
 use lib.ListN.{length, getD}
 use lib.Dec.{eqb, leb}
-use Rattle.quantities.specs.Guards.{guarded}
+use Rattle.refusal.specs.Guards.{Test, guarded}
+use Rattle.refusal.proofs.Guards.{always, numbered}
 use Rattle.remy.specs.declared.action.Action.{Action}
 use Rattle.remy.specs.declared.point.Point.{Point}
 use Rattle.remy.specs.Cube.{rootOf, containsOf, usualEnds}
 use Rattle.rule_tree.specs.declared.Node.{Node}
 use Rattle.rule_tree.specs.declared.RuleTree.{RuleTree}
 use Rattle.rule_tree.specs.declared.AugmentedRuleTree.{AugmentedRuleTree}
+use Rattle.rule_tree.specs.declared.Changed.{Changed}
 use Rattle.rule_tree.specs.declared.Looked.{Looked}
 use Rattle.rule_tree.specs.declared.Looked.the-variants as looked
 use Rattle.rule_tree.specs.declared.Domain.the-variants as domain
@@ -23,44 +25,54 @@ use Rattle.rule_tree.specs.declared.Chosen.{Chosen}
 use Rattle.rule_tree.specs.declared.Chosen.the-variants as chosen
 use Rattle.rule_tree.specs.declared.Number.the-variants as numbers
 use Rattle.rule_tree.specs.declared.Compared.the-variants as compared
-use Rattle.rule_tree.specs.Nodes.{nodeAt, childrenOf}
+use Rattle.rule_tree.specs.Nodes.{nodeAt, childrenOf, nodeCount}
 use Rattle.rule_tree.specs.Grown.{grownOf}
 use Rattle.rule_tree.specs.Walk.{leafOf, walkOf}
 use Rattle.rule_tree.specs.Counts.{eligible, better, mostUsed}
 use Rattle.rule_tree.specs.Change.{freshTree, withAction, withMark, withoutMarks, splitAt, undone}
-use Rattle.rule_tree.specs.Calls.{refuse, taken, blankTree, leafIn, newOf, setOf, markOf, clearOf, splitOf, undoOf, domainOf, foundIn, lookupOf, replacedOf, tallyOf, countedIn, parentsOf, usedOf, mostUsedOf, equalOf}
+use Rattle.rule_tree.specs.Calls.{refuse, taken, blankTree, leafIn, newOrder, grownOrder, domainOrder, leafOrder, actionOrder, splitOrder, undoOrder, countsOrder, tallyOrder, equalOrder, newOf, setOf, markOf, clearOf, splitOf, undoOf, domainOf, foundIn, lookupOf, replacedOf, tallyOf, countedIn, parentsOf, usedOf, mostUsedOf, equalOf}
 use Rattle.rule_tree.proofs.GrownTree.{grown-facts, grown-long, leaf-below}
 use Rattle.rule_tree.proofs.Looking.{replaced-same, replaced-other}
-use Rattle.rule_tree_view.specs.View.{viewedTree, viewOf}
+use Rattle.rule_tree_view.specs.View.{parentsIn, lentTree, viewOf}
 use Rattle.refusals.specs.Told.{Given, none, value, Told, told, refusedWith, lookedTold, domainTold, talliedTold, chosenTold, numberTold, comparedTold}
-use Rattle.refusals.specs.Order.{newOrder, setOrder, markOrder, clearOrder, splitOrder, undoOrder, domainOrder, lookupOrder, replacedOrder, viewOrder, tallyOrder, parentsOrder, countedOrder, equalOrder}
+use Rattle.refusals.specs.Order.{Guarded, viewOrder}
 use Rattle.refusals.specs.Gives.{domainGives, lookupGives, replacedGives, viewGives, tallyGives, parentsGives, usedGives, nodeFrom, mostUsedGives, equalGives}
 use Rattle.refusals.proofs.Ways.{either, both, tells}
 
--- ---- calls that hand back a tree: refused by the first test that fails, with the tree that came
-pub new-order : (a : Action) → newOf a ≡ guarded (newOrder a) (λ k. refuse k blankTree) (taken (freshTree usualEnds a))
+-- ---- calls that hand back a tree
+changed : (ts : List Test) (t u : RuleTree) → Guarded ts (λ (r : Changed). r .refused) (λ (r : Changed). r .tree) t (guarded ts (λ k. refuse k t) (taken u))
+changed ts t u =
+    record {
+      first = numbered (λ k. refuse k t) (taken u) (λ (r : Changed). r .refused) (λ k. refl) refl ts;
+      keeps = always (λ k. refuse k t) (taken u) (λ (r : Changed). (r .refused ≡ 0 → ⊥) → r .tree ≡ t) (λ k h. refl) (λ h. absurd (h refl)) ts;
+    }
+
+abbrev Changing : List Test → RuleTree → Changed → Type 0
+Changing ts t r = Guarded ts (λ (r : Changed). r .refused) (λ (r : Changed). r .tree) t r
+
+pub new-guarded : (a : Action) → Changing (newOrder a) blankTree (newOf a)
 unfolding newOf
-new-order a = refl
+new-guarded a = changed (newOrder a) blankTree (freshTree usualEnds a)
 
-pub set-order : (t : RuleTree) (i : ℕ) (a : Action) → setOf t i a ≡ guarded (setOrder t i a) (λ k. refuse k t) (taken (withAction t i a))
+pub set-guarded : (t : RuleTree) (i : ℕ) (a : Action) → Changing (actionOrder t i a) t (setOf t i a)
 unfolding setOf
-set-order t i a = refl
+set-guarded t i a = changed (actionOrder t i a) t (withAction t i a)
 
-pub mark-order : (t : RuleTree) (i : ℕ) → markOf t i ≡ guarded (markOrder t i) (λ k. refuse k t) (taken (withMark t i))
+pub mark-guarded : (t : RuleTree) (i : ℕ) → Changing (leafOrder t i) t (markOf t i)
 unfolding markOf
-mark-order t i = refl
+mark-guarded t i = changed (leafOrder t i) t (withMark t i)
 
-pub clear-order : (t : RuleTree) → clearOf t ≡ guarded (clearOrder t) (λ k. refuse k t) (taken (withoutMarks t))
+pub clear-guarded : (t : RuleTree) → Changing (grownOrder t) t (clearOf t)
 unfolding clearOf
-clear-order t = refl
+clear-guarded t = changed (grownOrder t) t (withoutMarks t)
 
-pub split-order : (t : RuleTree) (i : ℕ) → splitOf t i ≡ guarded (splitOrder t i) (λ k. refuse k t) (taken (splitAt t i))
+pub split-guarded : (t : RuleTree) (i : ℕ) → Changing (splitOrder t i) t (splitOf t i)
 unfolding splitOf
-split-order t i = refl
+split-guarded t i = changed (splitOrder t i) t (splitAt t i)
 
-pub undo-order : (t : RuleTree) → undoOf t ≡ guarded (undoOrder t) (λ k. refuse k t) (taken (undone t))
+pub undo-guarded : (t : RuleTree) → Changing (undoOrder t) t (undoOf t)
 unfolding undoOf
-undo-order t = refl
+undo-guarded t = changed (undoOrder t) t (undone t)
 
 -- ---- calls that answer by an enum
 pub domain-told : (t : RuleTree) (i : ℕ) → domainTold (domainOf t i) ≡ guarded (domainOrder t i) refusedWith (told (domainGives t i))
@@ -72,9 +84,9 @@ found-told : (t : RuleTree) (p : Point) → lookedTold (foundIn t p) ≡ told (l
 unfolding foundIn lookedTold
 found-told t p = both (λ (r : Looked) (v : Given Action). lookedTold r ≡ told v) (containsOf (rootOf (t .ends)) p) refl refl
 
-pub lookup-told : (t : RuleTree) (p : Point) → lookedTold (lookupOf t p) ≡ guarded (lookupOrder t) refusedWith (told (lookupGives t p))
+pub lookup-told : (t : RuleTree) (p : Point) → lookedTold (lookupOf t p) ≡ guarded (grownOrder t) refusedWith (told (lookupGives t p))
 unfolding lookupOf lookedTold
-lookup-told t p = tells lookedTold looked.Refused _ (lookupOrder t) (λ k. refl) (λ h. found-told t p)
+lookup-told t p = tells lookedTold looked.Refused _ (grownOrder t) (λ k. refl) (λ h. found-told t p)
 
 -- in a tree with one leaf's action replaced: that action at the leaf, elsewhere the leaf's own
 module _ (t : RuleTree) (leaf : ℕ) (a : Action) (p : Point) (l : leaf < length (t .nodes)) where
@@ -88,10 +100,10 @@ module _ (t : RuleTree) (leaf : ℕ) (a : Action) (p : Point) (l : leaf < length
 leaf-inside : (t : RuleTree) (i : ℕ) → grownOf t ≡ true → leafIn t i ≡ true → i < length (t .nodes)
 leaf-inside t i g l = let f = grown-facts t g in omega (arith, f .few, grown-long t f, leaf-below t i l)
 
-pub replaced-told : (a : AugmentedRuleTree) (p : Point) → lookedTold (replacedOf a p) ≡ guarded (replacedOrder a) refusedWith (told (replacedGives a p))
+pub replaced-told : (a : AugmentedRuleTree) (p : Point) → lookedTold (replacedOf a p) ≡ guarded (actionOrder (a .tree) (a .leaf) (a .action)) refusedWith (told (replacedGives a p))
 unfolding replacedOf lookedTold
 replaced-told a p =
-    tells lookedTold looked.Refused _ (replacedOrder a) (λ k. refl)
+    tells lookedTold looked.Refused _ (actionOrder (a .tree) (a .leaf) (a .action)) (λ k. refl)
     (λ h. replaced-in (a .tree) (a .leaf) (a .action) p (leaf-inside (a .tree) (a .leaf) (h .0) (h .1 .0)) _ refl _ refl)
 
 pub view-told :
@@ -99,8 +111,8 @@ pub view-told :
     → lookedTold (viewOf nodes leaf a p) ≡ guarded (viewOrder nodes leaf a) refusedWith (told (viewGives nodes leaf a p))
 unfolding viewOf lookedTold
 view-told nodes leaf a p =
-    both (λ (r : Looked) (v : Told Action). lookedTold r ≡ v) (eqb (length nodes) 513)
-    (replaced-told (record { tree = viewedTree nodes; leaf = leaf; action = a }) p) refl
+    both (λ (r : Looked) (v : Told Action). lookedTold r ≡ v) (eqb (length nodes) (nodeCount (parentsIn nodes)))
+    (replaced-told (record { tree = lentTree nodes; leaf = leaf; action = a }) p) refl
 
 -- ---- counts
 pub tally-told : (t : RuleTree) (xs : List ℕ) (p : Point) → talliedTold (tallyOf t xs p) ≡ guarded (tallyOrder t xs p) refusedWith (told (tallyGives t p))
@@ -116,13 +128,13 @@ tally-keeps xs (tallied.Counted i) n = absurd (n refl)
 tally-keeps xs tallied.Nothing n = refl
 tally-keeps xs (tallied.Refused k) n = refl
 
-pub parents-told : (t : RuleTree) → numberTold (parentsOf t) ≡ guarded (parentsOrder t) refusedWith (told (parentsGives t))
+pub parents-told : (t : RuleTree) → numberTold (parentsOf t) ≡ guarded (grownOrder t) refusedWith (told (parentsGives t))
 unfolding parentsOf numberTold
-parents-told t = tells numberTold numbers.Refused _ (parentsOrder t) (λ k. refl) (λ h. refl)
+parents-told t = tells numberTold numbers.Refused _ (grownOrder t) (λ k. refl) (λ h. refl)
 
-pub used-told : (t : RuleTree) (xs : List ℕ) → numberTold (usedOf t xs) ≡ guarded (countedOrder t xs) refusedWith (told (usedGives xs))
+pub used-told : (t : RuleTree) (xs : List ℕ) → numberTold (usedOf t xs) ≡ guarded (countsOrder t xs) refusedWith (told (usedGives xs))
 unfolding usedOf numberTold
-used-told t xs = tells numberTold numbers.Refused _ (countedOrder t xs) (λ k. refl) (λ h. refl)
+used-told t xs = tells numberTold numbers.Refused _ (countsOrder t xs) (λ k. refl) (λ h. refl)
 
 -- the choice itself is never refused
 abbrev Chooses : Chosen → Type 0
@@ -143,10 +155,10 @@ chosen-told nodes xs unmarked (suc i) =
 
 pub most-used-told :
     (unmarked : Bool) (t : RuleTree) (xs : List ℕ)
-    → chosenTold (mostUsedOf unmarked t xs) ≡ guarded (countedOrder t xs) refusedWith (told (mostUsedGives unmarked t xs))
+    → chosenTold (mostUsedOf unmarked t xs) ≡ guarded (countsOrder t xs) refusedWith (told (mostUsedGives unmarked t xs))
 unfolding mostUsedOf chosenTold
 most-used-told unmarked t xs =
-    tells chosenTold chosen.Refused _ (countedOrder t xs) (λ k. refl) (λ h. chosen-told (t .nodes) xs unmarked (length xs))
+    tells chosenTold chosen.Refused _ (countsOrder t xs) (λ k. refl) (λ h. chosen-told (t .nodes) xs unmarked (length xs))
 
 pub equal-told : (a b : RuleTree) → comparedTold (equalOf a b) ≡ guarded (equalOrder a b) refusedWith (told (equalGives a b))
 unfolding equalOf comparedTold

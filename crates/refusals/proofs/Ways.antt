@@ -4,13 +4,10 @@ use mathlib.Core.Bool.{Bool, true, false, cond}
 use Prim.Native.Nat.{ℕ}
 use lib.Dec.{eqb}
 use mathlib.Core.List.{List, [], _∷_}
-use Rattle.quantities.specs.Guards.{Test, guarded}
-use Rattle.quantities.proofs.Guards.{Hold}
+use Rattle.refusal.specs.Guards.{Test, guarded}
+pub use Rattle.refusal.proofs.Guards.{either, both}
+use Rattle.refusal.proofs.Guards.{Hold}
 use Rattle.refusals.specs.Told.{Given, none, Told, refusedWith}
-
-pub either : {A : Type 0} (P : A → Type 0) (b : Bool) {x y : A} → P x → P y → P (cond b x y)
-either P true p q = p
-either P false p q = q
 
 pub next : {A : Type 0} (f : A → ℕ) (b : Bool) {x y : A} {m k : ℕ} → f x ≡ m → f y ≡ k → f (cond b x y) ≡ cond b m k
 next f true p q = p
@@ -23,10 +20,6 @@ Keeps number after before r = (number r ≡ 0 → ⊥) → after r ≡ before
 -- an answer gives v where its number is 0, and none elsewhere
 abbrev pub Gives : {A B : Type 0} → (A → Given B) → Given B → A → ℕ → Type 0
 Gives told v r n = told r ≡ cond (eqb n 0) v none
-
-pub both : {A B : Type 0} (P : A → B → Type 0) (b : Bool) {x y : A} {m k : B} → P x m → P y k → P (cond b x y) (cond b m k)
-both P true p q = p
-both P false p q = q
 
 -- the same, where the first answer's part needs that the test holds
 pub held : {A : Type 0} (P : A → ℕ → Type 0) (b : Bool) {x y : A} {m k : ℕ} → (b ≡ true → P x m) → P y k → P (cond b x y) (cond b m k)

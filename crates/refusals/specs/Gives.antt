@@ -24,7 +24,7 @@ use Rattle.rule_tree.specs.Cubes.{cubeOf}
 use Rattle.rule_tree.specs.Walk.{leafOf}
 use Rattle.rule_tree.specs.Counts.{usedIn, mostUsed}
 use Rattle.rule_tree.specs.Equal.{treesEqual}
-use Rattle.rule_tree_view.specs.View.{viewedTree}
+use Rattle.rule_tree_view.specs.View.{lentTree}
 use Rattle.trainer.specs.declared.settings.Settings.{Settings}
 use Rattle.trainer.specs.declared.Trainer.{Trainer}
 use Rattle.trainer.specs.Candidates.{candidatesOf, noCandidate}
@@ -41,7 +41,7 @@ use Rattle.sender.specs.declared.Draw.{Draw}
 use Rattle.sender.specs.declared.Sender.{Sender}
 use Rattle.sender.specs.Acks.{windowIn, windowNow}
 use Rattle.sender.specs.Sender.{freshSender, ackOf}
-use Rattle.sender.specs.Run.{leftBy}
+use Rattle.sender.specs.Sender.{leftBy}
 use Rattle.refusals.specs.Told.{Given, none, value, Picked, Asks, counts, score, done}
 use Rattle.refusals.specs.Order.{panelTree, panelCounts, ackPoint}
 
@@ -61,7 +61,7 @@ abbrev pub replacedGives : AugmentedRuleTree → Point → Given Action
 replacedGives a p = atLeaf (a .tree) p (λ i. cond (eqb i (a .leaf)) (a .action) (nodeAt (a .tree .nodes) i .action))
 
 abbrev pub viewGives : List Node → ℕ → Action → Point → Given Action
-viewGives nodes leaf a p = replacedGives (record { tree = viewedTree nodes; leaf = leaf; action = a }) p
+viewGives nodes leaf a p = replacedGives (record { tree = lentTree nodes; leaf = leaf; action = a }) p
 
 -- "a tally that adds one to the reached leaf's entry"
 abbrev pub tallyGives : RuleTree → Point → Given ℕ

@@ -34,8 +34,8 @@ use Rattle.sender.specs.declared.Made.{Made}
 use Rattle.sender.specs.declared.Made.the-variants as made
 use Rattle.sender.specs.declared.Wake.{Wake}
 use Rattle.sender.specs.declared.Wake.the-variants as wake
-use Rattle.sender.specs.declared.face.Answer.{Answer}
-use Rattle.sender.specs.declared.face.Answer.the-variants as answer
+use Rattle.sender_face.specs.declared.Answer.{Answer}
+use Rattle.sender_face.specs.declared.Answer.the-variants as answer
 
 -- values that an answer may give
 pub data Given (A : Type 0) : Type 0 where

@@ -142,7 +142,7 @@ pub(crate) fn sender_at(bytes: &[u8], at: usize) -> Made
         0 => Sender::new(RepeatMode::Off),
         1 => Sender::new(RepeatMode::Always(lo)),
         2 => Sender::new(RepeatMode::Between(lo, hi)),
-        _ => Made::Refused(2),
+        _ => Made::Refused(refusal::BAD_SETTINGS),
     }
 }
 

@@ -65,7 +65,7 @@ pub(crate) fn record(out: &mut [u8], at: usize, word: &[u8], bytes: &[u8]) -> us
 
 fn moment(out: &mut [u8], at: usize, m: Moment) -> usize {
     match m {
-        Moment::At(t) => output::float(out, at, t.since_start().0),
+        Moment::At(t) => output::float(out, at, t.held()),
         Moment::Never => output::missing(out, at),
     }
 }
@@ -134,7 +134,7 @@ pub(crate) fn sender(out: &mut [u8], at: usize, s: Sender) -> usize {
 
 pub(crate) fn wake(out: &mut [u8], at: usize, found: Wake) -> usize {
     match found {
-        Wake::At(t) => float_line(out, at, b"wake", t.since_start().0),
+        Wake::At(t) => float_line(out, at, b"wake", t.held()),
         Wake::Never => words(out, at, b"wake -"),
         Wake::Refused(number) => refused(out, at, number),
     }

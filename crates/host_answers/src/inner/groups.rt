@@ -8,9 +8,9 @@ ghost use Rattle.host_answers.specs.Answers.{groupSize, groupOn, answers
 ghost use Rattle.host_answers.specs.Parts.{Ready};
 use crate::inner::tuning;
 use host_trainer::inner::records;
-use record::inner::read;
 use trainer::Answered;
 use trainer::Trainer;
+use wire::inner::read;
 
 fn counts_on(t: Trainer, counts: &[u8]) -> Answered
     ensures { λ r. ⌜ r ≡ answerCountsOf t (countsIn (now (counts .entry))) ⌝ }
@@ -37,7 +37,7 @@ fn group_on(t: Trainer, bytes: &[u8]) -> Answered
         }
     }
     Answered {
-        refused: 6,
+        refused: refusal::BAD_LENGTH,
         trainer: t,
     }
 }

@@ -7,13 +7,13 @@ ghost use Rattle.host_answers.specs.Answers.{scoresOn};
 ghost use Rattle.host_answers.specs.Parts.{tunedOf, trainerOf, AtLeaf, Counted, Ready};
 use crate::inner::steps;
 use crate::inner::steps::Tuned;
-use record::inner::read;
 use rule_tree::inner::change;
 use trainer::Answered;
 use trainer::Trainer;
 use trainer::inner::axes;
 use trainer::inner::begin;
 use trainer::inner::leaf;
+use wire::inner::read;
 
 // The small state of a trainer in phase 5.
 fn tuned_of(t: Trainer) -> Tuned
@@ -72,7 +72,7 @@ fn tune(t: Trainer, first: Tuned, scores: &[u8], from: usize, n: usize) -> Answe
         if u.count == 0 {
             let trainer = built(t, u);
             return Answered {
-                refused: 21,
+                refused: refusal::NOT_ASKED,
                 trainer,
             };
         }
@@ -121,7 +121,7 @@ pub fn scores_on(t: Trainer, scores: &[u8], n: usize) -> Answered
         return tune(t, u, scores, 0, n);
     }
     Answered {
-        refused: 21,
+        refused: refusal::NOT_ASKED,
         trainer: t,
     }
 }

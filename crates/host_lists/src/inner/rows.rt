@@ -8,17 +8,17 @@ ghost use Rattle.remy.specs.Action.{validOf};
 ghost use Rattle.trainer.specs.Settings.{settingsHold};
 ghost use Rattle.trainer.specs.Candidates.{candidatesOf, noCandidate};
 ghost use Rattle.trainer.specs.State.{acceptedOf};
-ghost use Rattle.record.specs.Read.{actionAt};
+ghost use Rattle.wire.specs.Fields.{actionAt};
 ghost use Rattle.host_lists.specs.Lists.{listBytes, listFits, listAfter, askedInARow};
 ghost use Rattle.host_lists.specs.Parts.{productOf, Few, ownPart, rowOf, candidatesWith};
 use record::Saved;
-use record::inner::read;
-use record::inner::write;
 use remy::action::Action;
 use trainer::Trainer;
 use trainer::inner::axes;
 use trainer::inner::leaf;
 use trainer::settings::Settings;
+use wire::inner::read;
+use wire::inner::write;
 
 // Action k of the product of three axes, the first outermost.
 fn action_of(multipliers: &[f64], increments: &[i32], delays: &[f64], k: usize) -> Action
@@ -90,7 +90,7 @@ fn put_row(
         put_product(out, at, multipliers, increments, delays, from, n);
         return Saved::Size(size);
     }
-    Saved::Refused(9)
+    Saved::Refused(refusal::SHORT_BUFFER)
 }
 
 // The candidates of an action from number from on, after the action itself where own says so. Each axis is computed once.
@@ -127,9 +127,9 @@ pub fn candidates_with(s: Settings, action: &[u8], out: &mut [u8]) -> Saved
         if a.valid() {
             return put_candidates(s, false, a, 0, out);
         }
-        return Saved::Refused(1);
+        return Saved::Refused(refusal::NOT_ADMITTED);
     }
-    Saved::Refused(6)
+    Saved::Refused(refusal::BAD_LENGTH)
 }
 
 // What an accepted trainer asks for in a row.

@@ -4,21 +4,20 @@ ghost use Prim.Native.Nat.{_≤_};
 ghost use Rattle.host_sender.specs.Layout.{momentAt, averageAt, tripsAt, pendingAt, modeAt, senderAt, modeWhole};
 use quantities::Time;
 use quantities::TimeSpan;
-use record::inner::read;
 use sender::Average;
 use sender::Moment;
 use sender::Pending;
 use sender::RepeatMode;
 use sender::Rtt;
 use sender::Sender;
+use wire::inner::read;
 
 fn moment_at(bytes: &[u8], at: usize) -> Moment
     requires { ⌜ at ≤ 65000 ⌝ }
     ensures { λ r. ⌜ r ≡ momentAt (now (bytes .entry)) at ⌝ }
 {
     if read::flag_at(bytes, at) {
-        let since = TimeSpan(read::float_at(bytes, at + 1));
-        return Moment::At(Time::from_start(since));
+        return Moment::At(Time::restored(read::float_at(bytes, at + 1)));
     }
     Moment::Never
 }

@@ -5,27 +5,28 @@ ghost use Prim.Native.Nat.{_+_, _*_, _≤_};
 ghost use lib.ListN.{length};
 ghost use lib.Seq.{sets};
 ghost use Rattle.rule_tree.specs.Grown.{grownOf};
-ghost use Rattle.sender.specs.Run.{Ready};
-ghost use Rattle.host_sender.specs.Events.{drawAt, senderAfter, replyBytes, repliesBytes, senderLeft, repliesLeft};
-ghost use Rattle.host_sender.specs.Parts.{codeOf, shownBy, eventsFit, EventAsks};
+ghost use Rattle.host_sender.specs.Events.{drawAt, eventAt, senderAfter, replyBytes, repliesBytes, senderLeft, repliesLeft};
+ghost use Rattle.host_sender.specs.Parts.{codeOf, shownBy, eventsFit};
 use crate::inner::read::read_sender;
 use crate::inner::write::write_sender;
 use record::Saved;
-use record::inner::read::byte_at;
-use record::inner::read::flag_at;
-use record::inner::read::float_at;
-use record::inner::read::word_at;
-use record::inner::write::put;
 use remy::cube::Cube;
 use rule_tree::RuleTree;
 use rule_tree::inner::links;
 use sender::Draw;
+use sender::Event;
 use sender::Reply;
 use sender::Sender;
-use sender::inner::run::Asked;
-use sender::inner::run::answer;
-use sender::inner::run::ask;
-use sender::inner::run::node_of;
+use sender::inner::acks::answer;
+use sender::inner::acks::node_of;
+use sender::inner::events::ask_for;
+use sender::inner::events::draw_of;
+use sender::inner::events::left_by;
+use wire::inner::read::byte_at;
+use wire::inner::read::flag_at;
+use wire::inner::read::float_at;
+use wire::inner::read::word_at;
+use wire::inner::write::put;
 
 fn draw_at(bytes: &[u8], at: usize) -> Draw
     requires { ⌜ at ≤ 65000 ⌝ }
@@ -37,21 +38,20 @@ fn draw_at(bytes: &[u8], at: usize) -> Draw
     Draw::Absent
 }
 
-// One event, an ack, a send, or a tick, up to the leaf that an ack asks for.
-fn event(children: &[u16; 513], root: Cube, s: Sender, bytes: &[u8]) -> Asked
-    requires { ⌜ Ready (now children) root ⌝ }
-    ensures { λ r. ⌜ EventAsks (now (children .entry)) root s (now (bytes .entry)) r ⌝ }
+// One event: an ack, a send, or a tick.
+fn event_at(bytes: &[u8]) -> Event
+    ensures { λ r. ⌜ r ≡ eventAt (now (bytes .entry)) 0 ⌝ }
 {
     let code = byte_at(bytes, 0);
     let sent = float_at(bytes, 1);
     if code == 0 {
         let received = float_at(bytes, 9);
-        return ask(children, root, s, sent, received);
+        return Event::Ack(sent, received, draw_at(bytes, 17));
     }
     if code == 1 {
-        return Asked::Answer(s.packet_sent(sent));
+        return Event::Send(sent);
     }
-    Asked::Answer(Reply::Taken(s.tick()))
+    Event::Tick
 }
 
 // The refusal's number, or 0.
@@ -88,25 +88,22 @@ fn run(tree: RuleTree, s: Sender, list: &[u8], n: usize, out: &mut [u8]) -> Send
     requires { ⌜ (grownOf tree ≡ true) × (22 * n ≤ length (now list)) × (5 * n ≤ length (now out)) ⌝ }
     ensures { λ r. ⌜ (r ≡ senderAfter tree s (now (list .entry)) n) × (now (out .exit) ≡ sets (now (out .entry)) 0 (repliesBytes tree s (now (list .entry)) n)) ⌝ }
 {
-    let e = tree.ends;
-    let root = Cube::root(e);
+    let ends = tree.ends;
+    let root = Cube::root(ends);
     let children = links::children_of(tree);
     let mut left = s;
     let mut i: usize = 0;
     while i < n {
         let at = 22 * i;
         let bytes = &list[at..at + 22];
-        let asked = event(&children, root, left, bytes);
-        let draw = draw_at(bytes, 17);
+        let e = event_at(bytes);
+        let asked = ask_for(&children, root, left, e);
         let node = node_of(asked) as usize;
         let x = tree.nodes[node];
         let a = x.action;
-        let reply = answer(asked, a, draw);
+        let reply = answer(asked, a, draw_of(e));
         put_reply(out, 5 * i, reply);
-        if let Reply::Taken(h) = reply {
-            let after = h.sender;
-            left = after;
-        }
+        left = left_by(left, reply);
         i += 1;
     }
     left
@@ -117,16 +114,16 @@ fn replies_size(sender: usize, list: usize, out: usize) -> Saved
     ensures { λ r. ⌜ r ≡ eventsFit sender list out ⌝ }
 {
     if sender != 108 {
-        return Saved::Refused(6);
+        return Saved::Refused(refusal::BAD_LENGTH);
     }
     if list % 22 != 0 {
-        return Saved::Refused(6);
+        return Saved::Refused(refusal::BAD_LENGTH);
     }
     let size = 5 * (list / 22);
     if size <= out {
         return Saved::Size(size);
     }
-    Saved::Refused(9)
+    Saved::Refused(refusal::SHORT_BUFFER)
 }
 
 // The events over a tree that was tested. A refused call writes nothing.

@@ -4,20 +4,20 @@ ghost use mathlib.Core.List.{_∷_, _++_};
 ghost use Prim.Native.Nat.{_+_, _≤_};
 ghost use lib.ListN.{length};
 ghost use lib.Seq.{sets};
-ghost use Rattle.record.specs.Bytes.{bytesOf};
-ghost use Rattle.record.specs.Write.{floatBytes};
+ghost use Rattle.wire.specs.Bytes.{bytesOf};
+ghost use Rattle.wire.specs.Fields.{floatBytes};
 ghost use Rattle.host_sender.specs.Layout.{momentBytes, averageBytes, tripsBytes, pendingBytes, modeBytes, senderBytes, fitted};
 ghost use Rattle.host_sender.specs.Parts.{memoryBytes, paceBytes, storedIn};
 ghost use Rattle.sender.specs.declared.Made.the-variants.{Ready};
 use record::Saved;
-use record::inner::write::put;
-use record::inner::write::put_action;
 use sender::Average;
 use sender::Moment;
 use sender::Pending;
 use sender::RepeatMode;
 use sender::Rtt;
 use sender::Sender;
+use wire::inner::write::put;
+use wire::inner::write::put_action;
 
 // The flag 1, and a float.
 fn put_float(buf: &mut [u8], at: usize, x: f64)
@@ -35,7 +35,7 @@ fn put_moment(buf: &mut [u8], at: usize, m: Moment)
 {
     match m {
         Moment::Never => put(buf, at, 9, 0),
-        Moment::At(t) => put_float(buf, at, t.since_start().0),
+        Moment::At(t) => put_float(buf, at, t.held()),
     }
 }
 
@@ -147,5 +147,5 @@ pub fn store(out: &mut [u8], s: Sender) -> Saved
         write_sender(out, s);
         return Saved::Size(108);
     }
-    Saved::Refused(9)
+    Saved::Refused(refusal::SHORT_BUFFER)
 }

@@ -9,8 +9,6 @@ ghost use Rattle.rule_tree.specs.Calls.{foundIn};
 ghost use Rattle.host_trainer.specs.Lookups.{pointAt, foundBytes, lookedBytes, sized, looksAfter};
 ghost use Rattle.host_trainer.specs.Parts.{replacedFor, replacedLook, Ready, spotOf, foundAt};
 use record::Saved;
-use record::inner::read;
-use record::inner::write;
 use remy::action::Action;
 use remy::cube::Cube;
 use remy::point::Point;
@@ -19,6 +17,8 @@ use rule_tree::RuleTree;
 use rule_tree::inner::change;
 use rule_tree::inner::links;
 use rule_tree::inner::walk;
+use wire::inner::read;
+use wire::inner::write;
 
 // Whether a point lies in the root box, and the leaf that it reaches there.
 pub struct Spot {
@@ -107,9 +107,9 @@ pub fn look_all(tree: RuleTree, points: &[u8], out: &mut [u8]) -> Saved
             put_looks(out, tree, points, n);
             return Saved::Size(size);
         }
-        return Saved::Refused(9);
+        return Saved::Refused(refusal::SHORT_BUFFER);
     }
-    Saved::Refused(6)
+    Saved::Refused(refusal::BAD_LENGTH)
 }
 
 // The tree with one leaf's action replaced is grown too, so it is looked through as it is.
@@ -130,9 +130,9 @@ pub fn look_replaced(
                 let changed = change::with_action(tree, leaf, other);
                 return look_all(changed, points, out);
             }
-            return Saved::Refused(1);
+            return Saved::Refused(refusal::NOT_ADMITTED);
         }
-        return Saved::Refused(6);
+        return Saved::Refused(refusal::BAD_LENGTH);
     }
-    Saved::Refused(3)
+    Saved::Refused(refusal::NO_LEAF)
 }

@@ -3,16 +3,16 @@ ghost use mathlib.Core.Path.{_≡_};
 ghost use Rattle.host_trainer.specs.Questions.{fitted, questionIn, questionAfter};
 ghost use Rattle.host_trainer.specs.Parts.{fieldsFit, fieldsAfter, questionFields, questionPut};
 use record::Saved;
-use record::inner::write;
 use remy::action::Action;
 use trainer::Answered;
 use trainer::Question;
+use wire::inner::write;
 
 fn put_fields(out: &mut [u8], kind: u8, leaf: u16, a: Action, progress: f64) -> Saved
     ensures { λ r. ⌜ (r ≡ fieldsFit (now (out .entry))) × (now (out .exit) ≡ fieldsAfter (questionFields kind leaf a progress) (now (out .entry))) ⌝ }
 {
     if out.len() < 31 {
-        return Saved::Refused(9);
+        return Saved::Refused(refusal::SHORT_BUFFER);
     }
     let bits = floats::to_bits(progress);
     out[0] = kind;

@@ -3,14 +3,14 @@ ghost use mathlib.Core.Path.{_≡_};
 ghost use Prim.Native.Nat.{_*_, _≤_};
 ghost use lib.ListN.{take};
 ghost use Rattle.rule_tree.specs.Lists.{tabulate};
-ghost use Rattle.record.specs.Bytes.{numberAt};
+ghost use Rattle.wire.specs.Bytes.{numberAt};
 ghost use Rattle.host_trainer.specs.Records.{startIn, scoreAnswered, countsAnswered, writtenOf, recordAfter};
 ghost use Rattle.host_trainer.specs.Parts.{countOf};
 use record::Saved;
 use record::inner::body;
-use record::inner::read;
 use trainer::Answered;
 use trainer::Trainer;
+use wire::inner::read;
 
 // The record of the trainer after a call; of a refused call nothing.
 pub fn written(a: Answered, out: &mut [u8]) -> Saved
@@ -29,7 +29,7 @@ pub fn started(settings: &[u8]) -> Answered
 {
     if settings.len() == 113 {
         if read::byte_at(settings, 12) <= 1 {
-            let s = read::settings_at(settings, 0);
+            let s = record::inner::read::settings_at(settings, 0);
             return Trainer::start(s);
         }
     }

@@ -23,7 +23,7 @@ fn without_newest(t: Trainer) -> Answered
             };
         }
         return Answered {
-            refused: 3,
+            refused: refusal::NO_LEAF,
             trainer: t,
         };
     }

@@ -2,9 +2,9 @@
 ghost use mathlib.Core.Path.{_≡_};
 ghost use Prim.Native.Nat.{_+_, _≤_};
 ghost use lib.ListN.{take};
-ghost use Rattle.record.specs.Bytes.{numberAt};
+ghost use Rattle.wire.specs.Bytes.{numberAt};
 ghost use Rattle.panel_lines.specs.Panel.{startHolds, countsIn};
-use record::inner::read;
+use wire::inner::read;
 
 // The first four bytes say how many of those that follow are the record's.
 pub fn start_holds(input: &[u8]) -> bool

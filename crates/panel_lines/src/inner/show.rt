@@ -22,9 +22,9 @@ fn lines_shown(t: RuleTree, xs: &[u64], out: &mut [u8]) -> Shown
             write::put(out, 0, &buf[0..size]);
             return Shown::Size(size);
         }
-        return Shown::Refused(9);
+        return Shown::Refused(refusal::SHORT_BUFFER);
     }
-    Shown::Refused(4)
+    Shown::Refused(refusal::BAD_COUNTS)
 }
 
 pub fn counts_shown(t: RuleTree, bytes: &[u8], out: &mut [u8]) -> Shown
@@ -36,5 +36,5 @@ pub fn counts_shown(t: RuleTree, bytes: &[u8], out: &mut [u8]) -> Shown
         let xs = read::counts_at(bytes, n);
         return lines_shown(t, &xs[0..n], out);
     }
-    Shown::Refused(4)
+    Shown::Refused(refusal::BAD_COUNTS)
 }

@@ -1,6 +1,6 @@
 -- `input::signed` is safe: the number of any 32 bits fits. Assumes nothing.
 use borrow.Author.Needs.{needs}
-use Rattle.record.proofs.Signed as law
+use Rattle.wire.proofs.Signed as law
 use Rattle.replay.proofs.input.signed.Statement.{statement}
 use Rattle.replay.proofs.input.signed.Tie as tie
 

@@ -3,7 +3,7 @@ use mathlib.Core.Path.{sym, subst}
 use Prim.Native.Nat.{ℕ, _<_}
 use mir.Syntax.{w32}
 use mir.ValLaws.{ofZ-fits}
-use Rattle.record.proofs.Signed as law
+use Rattle.wire.proofs.Signed as law
 use Rattle.replay.proofs.output.bits_of.Statement.{statement}
 use Rattle.replay.proofs.output.bits_of.Tie as tie
 

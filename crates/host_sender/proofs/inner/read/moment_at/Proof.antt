@@ -13,13 +13,13 @@ add-float-at c = search needs
 float-at-requires : tie.Need-float-at-requires
 float-at-requires c κs = search needs
 
-from-start-requires : tie.Need-from-start-requires
-from-start-requires c κs = search needs
+restored-requires : tie.Need-restored-requires
+restored-requires c κs = search needs
 
 returns : tie.Need-returns
 returns c =
     let s = c .before .before .before .before .before in
-    law.moment-there (s .args .bytes .now) (s .args .at) (c .before .before .before .flag-at .ensures) (c .before .before .if1 .taken) (c .before .float-at .ensures) (c .from-start .ensures)
+    law.moment-there (s .args .bytes .now) (s .args .at) (c .before .before .before .flag-at .ensures) (c .before .before .if1 .taken) (c .before .float-at .ensures) (c .restored .ensures)
 
 returns-2 : tie.Need-returns-2
 returns-2 c =
@@ -33,6 +33,6 @@ moment-at-spec =
     flag-at-requires
     add-float-at
     float-at-requires
-    from-start-requires
+    restored-requires
     returns
     returns-2)

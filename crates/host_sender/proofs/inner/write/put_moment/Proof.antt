@@ -13,8 +13,8 @@ put-requires c κs = search needs
 enum-known-m : tie.Need-enum-known-m
 enum-known-m c = search needs
 
-since-start-requires : tie.Need-since-start-requires
-since-start-requires c κs = search needs
+held-requires : tie.Need-held-requires
+held-requires c κs = search needs
 
 put-float-requires : tie.Need-put-float-requires
 put-float-requires c κs = search needs
@@ -33,7 +33,7 @@ same-length-2 c = search needs
 returns-2 : tie.Need-returns-2
 returns-2 c =
     let s = c .before .before .before .before .before .before .before .before .before in
-    law.moment-there (s .args .buf .now) (s .args .at) _ (c .before .before .before .before .before .before .m .given .1) (c .before .before .before .since-start .ensures) (c .before .before .put-float .ensures)
+    law.moment-there (s .args .buf .now) (s .args .at) _ (c .before .before .before .before .before .before .m .given .1) (c .before .before .before .held .ensures) (c .before .before .put-float .ensures)
 
 pub put-moment-spec : {M : Type 1} → statement M
 put-moment-spec =
@@ -42,7 +42,7 @@ put-moment-spec =
     enum-told
     put-requires
     enum-known-m
-    since-start-requires
+    held-requires
     put-float-requires
     same-length
     returns
