@@ -17,7 +17,7 @@ use Rattle.remy.specs.Cube as cube
 use Rattle.rule_tree.specs.declared.Node.{Node}
 use Rattle.rule_tree.specs.declared.RuleTree.{RuleTree}
 use Rattle.rule_tree.specs.Lists.{fill}
-use Rattle.rule_tree.specs.Nodes.{noNode, nodeAt, isLeaf, nodeCount, noAction, leafWith, linkedTo, childrenOf}
+use Rattle.rule_tree.specs.Nodes.{noNode, nodeAt, isLeaf, nodeCount, noAction, leafWith, linkedTo, blankNode, childrenOf, actionIn, nodeHolding}
 use Rattle.rule_tree.specs.Cubes.{ownerBelow, splitNodes}
 use Rattle.rule_tree.specs.Change.{freshTree, withNodes, unmarkedNode, withoutMarks, splitAt, newestParent, undone}
 use Rattle.rule_tree.specs.Calls.{leafIn, blankTree}
@@ -53,14 +53,14 @@ pub in-array : (s i : ℕ) (b : Bool) → s ≤ 64 → b ≡ ltb i (nodeCount s)
 in-array s i b l e h = omega (arith, ltb-true i (nodeCount s) (sym e ∙ h))
 
 pub fresh-made :
-    (e : Point) (a none : Action) → none ≡ noAction
-    → _≡_ {A = RuleTree} (record { nodes = set (replicate 513 (leafWith none)) 0 (leafWith a); splits = 0; ends = e }) (freshTree e a)
-fresh-made e a none p = ap (λ (x : Action). record { nodes = set (replicate 513 (leafWith x)) 0 (leafWith a); splits = 0; ends = e }) p
+    (e : Point) (a : Action) (blank leaf : Node) → blank ≡ blankNode → leaf ≡ leafWith a
+    → _≡_ {A = RuleTree} (record { nodes = set (replicate 513 blank) 0 leaf; splits = 0; ends = e }) (freshTree e a)
+fresh-made e a blank leaf p q = λ j. record { nodes = set (replicate 513 (p j)) 0 (q j); splits = 0; ends = e }
 
 pub blank-made : (e : Point) (none : Action) (t : RuleTree) → e ≡ pointOf cube.zero cube.zero cube.zero → none ≡ noAction → t ≡ freshTree e none → t ≡ blankTree
 blank-made e none t p q h = h ∙ (λ j. freshTree (p j) (q j))
 
-pub unmarked-leaf : (x : Node) → x .children ≡ 0 → _≡_ {A = Node} (record { action = x .action; children = x .children; optimized = false }) (unmarkedNode x)
+pub unmarked-leaf : (x : Node) → x .children ≡ 0 → _≡_ {A = Node} (nodeHolding (actionIn x) (x .children) false) (unmarkedNode x)
 unfolding unmarkedNode
 unmarked-leaf x h = rw (eq-eqb _ 0 h)
 
@@ -92,7 +92,7 @@ eight-done t out from k v l g e = let q : k ≡ 8 = omega arith in e ∙ ap (λ 
 
 pub split-done :
     (t out : RuleTree) (i : ℕ)
-    → out ≡ withNodes t (fill (set (t .nodes) i (linkedTo (nodeAt (t .nodes) i) (8 * t .splits + 1))) (8 * t .splits + 1) 8 (leafWith (nodeAt (t .nodes) i .action)))
+    → out ≡ withNodes t (fill (set (t .nodes) i (linkedTo (nodeAt (t .nodes) i) (8 * t .splits + 1))) (8 * t .splits + 1) 8 (leafWith (actionIn (nodeAt (t .nodes) i))))
     → _≡_ {A = RuleTree} (record { nodes = out .nodes; splits = t .splits + 1; ends = out .ends }) (splitAt t i)
 unfolding splitAt
 split-done t out i e = ap (λ (o : RuleTree). record { nodes = o .nodes; splits = t .splits + 1; ends = o .ends }) e
@@ -110,12 +110,12 @@ newest-fits t i e =
     (owner-found 513 (childrenOf (t .nodes)) (8 * (t .splits - 1) + 1))
 
 pub undo-done :
-    (t out : RuleTree) (i : ℕ) (none : Action) → i ≡ newestParent t → none ≡ noAction
-    → out ≡ withNodes t (fill (set (t .nodes) i (linkedTo (nodeAt (t .nodes) i) 0)) (8 * (t .splits - 1) + 1) 8 (leafWith none))
+    (t out : RuleTree) (i : ℕ) (blank : Node) → i ≡ newestParent t → blank ≡ blankNode
+    → out ≡ withNodes t (fill (set (t .nodes) i (linkedTo (nodeAt (t .nodes) i) 0)) (8 * (t .splits - 1) + 1) 8 blank)
     → _≡_ {A = RuleTree} (record { nodes = out .nodes; splits = t .splits - 1; ends = out .ends }) (undone t)
 unfolding undone
-undo-done t out i none p q e =
+undo-done t out i blank p q e =
     ap (λ (o : RuleTree). record { nodes = o .nodes; splits = t .splits - 1; ends = o .ends })
     (e
-    ∙ ap (λ (j : ℕ). withNodes t (fill (set (t .nodes) j (linkedTo (nodeAt (t .nodes) j) 0)) (8 * (t .splits - 1) + 1) 8 (leafWith none))) p
-    ∙ ap (λ (a : Action). withNodes t (fill (set (t .nodes) (newestParent t) (linkedTo (nodeAt (t .nodes) (newestParent t)) 0)) (8 * (t .splits - 1) + 1) 8 (leafWith a))) q)
+    ∙ ap (λ (j : ℕ). withNodes t (fill (set (t .nodes) j (linkedTo (nodeAt (t .nodes) j) 0)) (8 * (t .splits - 1) + 1) 8 blank)) p
+    ∙ ap (λ (x : Node). withNodes t (fill (set (t .nodes) (newestParent t) (linkedTo (nodeAt (t .nodes) (newestParent t)) 0)) (8 * (t .splits - 1) + 1) 8 x)) q)

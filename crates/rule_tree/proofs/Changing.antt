@@ -19,7 +19,7 @@ use Rattle.remy.specs.Cube.{usualEnds, pointEqual}
 use Rattle.rule_tree.specs.declared.Node.{Node}
 use Rattle.rule_tree.specs.declared.RuleTree.{RuleTree}
 use Rattle.rule_tree.specs.Lists.{occurrences, fill}
-use Rattle.rule_tree.specs.Nodes.{noNode, nodeAt, isLeaf, nodeCount, leafWith, linkedTo, blankNode, childrenOf}
+use Rattle.rule_tree.specs.Nodes.{noNode, nodeAt, isLeaf, nodeCount, leafWith, linkedTo, blankNode, childrenOf, actionIn, nodeHolding}
 use Rattle.rule_tree.specs.Grown.{linkHolds, plainOf, slotHolds, endsHold, grownOf}
 use Rattle.rule_tree.specs.Change.{freshTree, withNodes, withAction, withMark, unmarkedNode, withoutMarks, splitAt}
 use Rattle.rule_tree.specs.Calls.{leafIn}
@@ -77,7 +77,7 @@ module _ (t : RuleTree) (i : ℕ) (a : Action) where
 
   pub action-at :
       i < length (t .nodes)
-      → nodeAt (withAction t i a .nodes) i ≡ record { action = a; children = nodeAt (t .nodes) i .children; optimized = nodeAt (t .nodes) i .optimized }
+      → nodeAt (withAction t i a .nodes) i ≡ nodeHolding a (nodeAt (t .nodes) i .children) (nodeAt (t .nodes) i .optimized)
   action-at l = getD-set-same (t .nodes) i _ noNode l
 
   pub action-other : (j : ℕ) → j ≢ i → nodeAt (withAction t i a .nodes) j ≡ nodeAt (t .nodes) j
@@ -103,7 +103,7 @@ module _ (t : RuleTree) (i : ℕ) where
 
   pub mark-at :
       i < length (t .nodes)
-      → nodeAt (withMark t i .nodes) i ≡ record { action = nodeAt (t .nodes) i .action; children = nodeAt (t .nodes) i .children; optimized = true }
+      → nodeAt (withMark t i .nodes) i ≡ nodeHolding (actionIn (nodeAt (t .nodes) i)) (nodeAt (t .nodes) i .children) true
   mark-at l = getD-set-same (t .nodes) i _ noNode l
 
   pub mark-other : (j : ℕ) → j ≢ i → nodeAt (withMark t i .nodes) j ≡ nodeAt (t .nodes) j
@@ -128,7 +128,7 @@ unmarked-children : (x : Node) → unmarkedNode x .children ≡ x .children
 unfolding unmarkedNode
 unmarked-children x = go (eqb (x .children) 0)
   where
-    go : (b : Bool) → (cond b (record { action = x .action; children = x .children; optimized = false }) x) .children ≡ x .children
+    go : (b : Bool) → (cond b (nodeHolding (actionIn x) (x .children) false) x) .children ≡ x .children
     go true = refl
     go false = refl
 
@@ -143,11 +143,11 @@ last-true true true false m h = h
 last-true true false c m h = h
 last-true false b c m h = h
 
-unmarked-plain : (x : Node) → plainOf x ≡ true → plainOf (record { action = x .action; children = x .children; optimized = false }) ≡ true
+unmarked-plain : (x : Node) → plainOf x ≡ true → plainOf (nodeHolding (actionIn x) (x .children) false) ≡ true
 unfolding plainOf
 unmarked-plain x h =
-    last-true (eqb (toBits binary64 (x .action .«window_multiplier»)) 0) (eqb (ofZ w32 (x .action .«window_increment»)) 0)
-    (eqb (toBits binary64 (x .action .«intersend_delay» .0)) 0) (not (x .optimized)) h
+    last-true (eqb (toBits binary64 (x .«window_multiplier»)) 0) (eqb (ofZ w32 (x .«window_increment»)) 0)
+    (eqb (toBits binary64 (x .«intersend_delay» .0)) 0) (not (x .optimized)) h
 
 unmarked-slot : (x : Node) (u : Bool) → slotHolds x u ≡ true → slotHolds (unmarkedNode x) u ≡ true
 unfolding unmarkedNode
@@ -155,16 +155,16 @@ unmarked-slot x u h = go (eqb (x .children) 0) refl u refl
   where
     go :
         (b : Bool) → eqb (x .children) 0 ≡ b → (v : Bool) → u ≡ v
-        → slotHolds (cond b (record { action = x .action; children = x .children; optimized = false }) x) u ≡ true
+        → slotHolds (cond b (nodeHolding (actionIn x) (x .children) false) x) u ≡ true
     go true e true p = slot-used _ u p ∙ sym (slot-used x u p) ∙ h
     go true e false p = slot-unused _ u p ∙ unmarked-plain x (sym (slot-unused x u p) ∙ h)
     go false e v p = h
 
-unmarked-action : (x : Node) → unmarkedNode x .action ≡ x .action
+unmarked-action : (x : Node) → actionIn (unmarkedNode x) ≡ actionIn x
 unfolding unmarkedNode
 unmarked-action x = go (eqb (x .children) 0)
   where
-    go : (b : Bool) → (cond b (record { action = x .action; children = x .children; optimized = false }) x) .action ≡ x .action
+    go : (b : Bool) → actionIn (cond b (nodeHolding (actionIn x) (x .children) false) x) ≡ actionIn x
     go true = refl
     go false = refl
 
@@ -182,8 +182,8 @@ module _ (t : RuleTree) where
   pub clear-leaves : (j : ℕ) → leafIn (withoutMarks t) j ≡ leafIn t j
   clear-leaves = links-leaves t (withoutMarks t .nodes) clear-links
 
-  pub clear-action : (j : ℕ) → nodeAt (withoutMarks t .nodes) j .action ≡ nodeAt (t .nodes) j .action
-  clear-action j = ap (λ (x : Node). x .action) (clear-at j) ∙ unmarked-action (nodeAt (t .nodes) j)
+  pub clear-action : (j : ℕ) → actionIn (nodeAt (withoutMarks t .nodes) j) ≡ actionIn (nodeAt (t .nodes) j)
+  clear-action j = ap (λ (x : Node). actionIn x) (clear-at j) ∙ unmarked-action (nodeAt (t .nodes) j)
 
   pub clear-mark : (j : ℕ) → leafIn t j ≡ true → nodeAt (withoutMarks t .nodes) j .optimized ≡ false
   clear-mark j l = ap (λ (x : Node). x .optimized) (clear-at j ∙ sym (unmarked-leaf (nodeAt (t .nodes) j) (leaf-childless t j l)))
@@ -269,7 +269,7 @@ occurrences-none x (c ∷ cs) h =
 abbrev splitTree : RuleTree → ℕ → RuleTree
 splitTree t i =
     record {
-      nodes = fill (set (t .nodes) i (linkedTo (nodeAt (t .nodes) i) (8 * t .splits + 1))) (8 * t .splits + 1) 8 (leafWith (nodeAt (t .nodes) i .action));
+      nodes = fill (set (t .nodes) i (linkedTo (nodeAt (t .nodes) i) (8 * t .splits + 1))) (8 * t .splits + 1) 8 (leafWith (actionIn (nodeAt (t .nodes) i)));
       splits = t .splits + 1;
       ends = t .ends;
     }
@@ -299,7 +299,7 @@ module _ (t : RuleTree) (i : ℕ) where
 
   pub split-child :
       8 * t .splits + 9 ≤ length (t .nodes) → (k : ℕ) → k < 8
-      → nodeAt (splitAt t i .nodes) (8 * t .splits + 1 + k) ≡ leafWith (nodeAt (t .nodes) i .action)
+      → nodeAt (splitAt t i .nodes) (8 * t .splits + 1 + k) ≡ leafWith (actionIn (nodeAt (t .nodes) i))
   split-child l k b =
       ap (λ (r : RuleTree). nodeAt (r .nodes) (8 * t .splits + 1 + k)) (sym (split-is t i))
       ∙ getD-fill (set (t .nodes) i (linkedTo (nodeAt (t .nodes) i) (8 * t .splits + 1))) (8 * t .splits + 1) 8 _ noNode k b
@@ -342,7 +342,7 @@ module _ (t : RuleTree) (i : ℕ) (n : length (t .nodes) ≡ 513) (g : Grown t) 
   parent : nodeAt (splitAt t i .nodes) i ≡ linkedTo (nodeAt (t .nodes) i) (8 * t .splits + 1)
   parent = split-parent t i (omega (arith, leaf-below t i l)) (leaf-below t i l)
 
-  child : (k : ℕ) → k < 8 → nodeAt (splitAt t i .nodes) (8 * t .splits + 1 + k) ≡ leafWith (nodeAt (t .nodes) i .action)
+  child : (k : ℕ) → k < 8 → nodeAt (splitAt t i .nodes) (8 * t .splits + 1 + k) ≡ leafWith (actionIn (nodeAt (t .nodes) i))
   child k b = split-child t i (omega arith) k b
 
   -- of the first children only the new parent's is another

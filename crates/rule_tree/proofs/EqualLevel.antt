@@ -12,7 +12,7 @@ use Rattle.remy.specs.declared.cube.Cube.{Cube}
 use Rattle.remy.specs.Cube.{childCube}
 use Rattle.rule_tree.specs.declared.Node.{Node}
 use Rattle.rule_tree.specs.Lists.{allBelow}
-use Rattle.rule_tree.specs.Nodes.{nodeAt, noNode}
+use Rattle.rule_tree.specs.Nodes.{nodeAt, noNode, actionIn}
 use Rattle.rule_tree.specs.Equal.{cubeEqual, actionEqual, nodeEqual, childrenEqual}
 use Rattle.rule_tree.proofs.Lists.{and-false}
 
@@ -21,7 +21,7 @@ unfoldable pub levelOf : Cube → Cube → ℕ → Action → ℕ → Action →
 levelOf c d x p y q below =
     cubeEqual c d && cond (eqb x 0) (cond (eqb y 0) (actionEqual p q) false) (cond (eqb y 0) false below)
 
-pub level : (n : ℕ) (s t : List Node) (i j : ℕ) (c d : Cube) → (n ≡ 0 → ⊥) → nodeEqual n s t i j c d ≡ levelOf c d (nodeAt s i .children) (nodeAt s i .action) (nodeAt t j .children) (nodeAt t j .action) (childrenEqual (n - 1) s t (nodeAt s i .children) (nodeAt t j .children) c d)
+pub level : (n : ℕ) (s t : List Node) (i j : ℕ) (c d : Cube) → (n ≡ 0 → ⊥) → nodeEqual n s t i j c d ≡ levelOf c d (nodeAt s i .children) (actionIn (nodeAt s i)) (nodeAt t j .children) (actionIn (nodeAt t j)) (childrenEqual (n - 1) s t (nodeAt s i .children) (nodeAt t j .children) c d)
 unfolding nodeEqual levelOf
 level zero s t i j c d f = absurd (f refl)
 level (suc n) s t i j c d f = rw (sub-one (suc n))
@@ -33,7 +33,7 @@ none-deep n s t i j c d e = rw e
 -- two nodes that differ in their marks alone, and lists of such
 pub record Alike (x y : Node) : Type 0 where
   pub links : x .children ≡ y .children
-  pub actions : x .action ≡ y .action
+  pub actions : actionIn x ≡ actionIn y
 
 abbrev pub AllAlike : List Node → List Node → Type 0
 AllAlike s t = (k : ℕ) → Alike (nodeAt s k) (nodeAt t k)
@@ -70,4 +70,4 @@ pub past-right : (n : ℕ) (s t : List Node) (i j : ℕ) (c d : Cube) → length
 unfolding nodeEqual actionEqual
 past-right zero s t i j c d h = refl
 past-right (suc n) s t i j c d h =
-    rw (List·getD-eq-default t noNode h, eq-nan (nodeAt s i .action .«window_multiplier»), cond-same (eqb (nodeAt s i .children) 0), and-false (cubeEqual c d))
+    rw (List·getD-eq-default t noNode h, eq-nan (nodeAt s i .«window_multiplier»), cond-same (eqb (nodeAt s i .children) 0), and-false (cubeEqual c d))

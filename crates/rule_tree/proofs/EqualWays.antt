@@ -12,7 +12,7 @@ use Rattle.remy.specs.declared.cube.Cube.{Cube}
 use Rattle.remy.specs.Cube.{childCube}
 use Rattle.rule_tree.specs.declared.Node.{Node}
 use Rattle.rule_tree.specs.Lists.{allBelow}
-use Rattle.rule_tree.specs.Nodes.{nodeAt, noNode, childrenOf, slots}
+use Rattle.rule_tree.specs.Nodes.{nodeAt, noNode, childrenOf, slots, actionIn}
 use Rattle.rule_tree.specs.Equal.{cubeEqual, actionEqual, nodeEqual, childrenEqual}
 use Rattle.rule_tree.specs.Equal.{actionFrom, ActionsHeld, nodeFrom, nodesFrom}
 use Rattle.rule_tree.proofs.Lists.{allBelow-more, allBelow-fails, length-tabulate, getD-tabulate}
@@ -48,7 +48,7 @@ module _ (ac : List ℕ) (ax : List Float) (bc : List ℕ) (bx : List Float) (c 
           level n A B i j c d deep
           ∙ (λ z. let x = node-from ac ax i hi z in
           let y = node-from bc bx j hj z in
-          levelOf c d (x .children) (x .action) (y .children) (y .action) (childrenEqual (n - 1) A B (x .children) (y .children) c d))
+          levelOf c d (x .children) (actionIn x) (y .children) (actionIn y) (childrenEqual (n - 1) A B (x .children) (y .children) c d))
 
       pub cubes-differ : r ≡ false → false ≡ nodeEqual n A B i j c d
       unfolding levelOf

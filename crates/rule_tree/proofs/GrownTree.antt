@@ -14,7 +14,7 @@ use Rattle.rule_tree.specs.declared.Node.{Node}
 use Rattle.rule_tree.specs.declared.RuleTree.{RuleTree}
 use Rattle.rule_tree.specs.declared.Chosen.the-variants.{Leaf}
 use Rattle.rule_tree.specs.Lists.{occurrences}
-use Rattle.rule_tree.specs.Nodes.{noNode, nodeAt, isLeaf, nodeCount, childrenOf}
+use Rattle.rule_tree.specs.Nodes.{noNode, nodeAt, isLeaf, nodeCount, childrenOf, actionIn}
 use Rattle.rule_tree.specs.Grown.{linkHolds, linksHold, ownersOf, allOnes, linkedOf, plainOf, slotHolds, payloadsHold, endsHold, grownOf}
 use Rattle.rule_tree.specs.Counts.{countsHold, mostUsed}
 use Rattle.rule_tree.specs.Calls.{leafIn}
@@ -87,7 +87,7 @@ pub link-from : (s c i : ℕ) → Parent s c i → linkHolds s c i ≡ true
 link-from s c i p = link-holds s c i (record { first = p .first; after = p .later; inside = p .below })
 
 -- ---- one slot
-pub slot-used : (x : Node) (u : Bool) → u ≡ true → slotHolds x u ≡ validOf (x .action)
+pub slot-used : (x : Node) (u : Bool) → u ≡ true → slotHolds x u ≡ validOf (actionIn x)
 unfolding slotHolds
 slot-used x u p = rw p
 
@@ -139,10 +139,10 @@ module _ (t : RuleTree) (g : Grown t) where
       (link-parts _ _ _ (g .links (8 * t .splits) (omega (arith, g .few)))))
 
   -- a node's action is valid, and so a leaf's
-  pub node-valid : (i : ℕ) → i < nodeCount (t .splits) → validOf (nodeAt (t .nodes) i .action) ≡ true
+  pub node-valid : (i : ℕ) → i < nodeCount (t .splits) → validOf (actionIn (nodeAt (t .nodes) i)) ≡ true
   node-valid i l = grown-valid t (facts-grown t g) i l
 
-  pub leaf-valid : (i : ℕ) → leafIn t i ≡ true → validOf (nodeAt (t .nodes) i .action) ≡ true
+  pub leaf-valid : (i : ℕ) → leafIn t i ≡ true → validOf (actionIn (nodeAt (t .nodes) i)) ≡ true
   leaf-valid i h = node-valid i (leaf-below t i h)
 
 -- ---- the most used of a tree's leaves

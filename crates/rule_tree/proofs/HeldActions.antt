@@ -20,7 +20,7 @@ use Rattle.remy.specs.declared.action.Action.{Action}
 use Rattle.remy.specs.Action.{actionOf}
 use Rattle.remy.proofs.Window.{cut-whole}
 use Rattle.rule_tree.specs.declared.Node.{Node}
-use Rattle.rule_tree.specs.Nodes.{nodeAt}
+use Rattle.rule_tree.specs.Nodes.{nodeAt, actionIn}
 use Rattle.rule_tree.specs.Equal.{actionFrom, ActionsHeld}
 use Rattle.rule_tree.proofs.Owners.{same-or-not}
 
@@ -75,10 +75,10 @@ module _ (xs : List Float) (i : ℕ) (m z d : Float) (l : 3 * i + 2 < length xs)
           (omega (arith, length-set (set xs (3 * i) m) (3 * i + 1) z, length-set xs (3 * i) m))
 
   -- one node's action more is held
-  pub held-more : (nodes : List Node) → actionOf m (toSigned 31 z) d ≡ nodeAt nodes i .action → ActionsHeld nodes xs i → ActionsHeld nodes (stored xs i m z d) (i + 1)
+  pub held-more : (nodes : List Node) → actionOf m (toSigned 31 z) d ≡ actionIn (nodeAt nodes i) → ActionsHeld nodes xs i → ActionsHeld nodes (stored xs i m z d) (i + 1)
   held-more nodes e h k b =
       ⊎-elim
-      (λ (p : k ≡ i). ap (actionFrom (stored xs i m z d)) p ∙ stored-here ∙ e ∙ ap (λ (n : ℕ). nodeAt nodes n .action) (sym p))
+      (λ (p : k ≡ i). ap (actionFrom (stored xs i m z d)) p ∙ stored-here ∙ e ∙ ap (λ (n : ℕ). actionIn (nodeAt nodes n)) (sym p))
       (λ (n : k ≢ i). let c : k < i = less k b n in stored-other k c ∙ h k c)
       (same-or-not k i)
     where

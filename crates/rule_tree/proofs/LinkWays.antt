@@ -17,7 +17,7 @@ use Rattle.remy.specs.Action.{validOf}
 use Rattle.rule_tree.specs.declared.Node.{Node}
 use Rattle.rule_tree.specs.declared.RuleTree.{RuleTree}
 use Rattle.rule_tree.specs.Lists.{allBelow, countBelow}
-use Rattle.rule_tree.specs.Nodes.{noNode, nodeAt, childrenOf, isLeaf}
+use Rattle.rule_tree.specs.Nodes.{noNode, nodeAt, childrenOf, isLeaf, actionIn}
 use Rattle.rule_tree.specs.Grown.{linkHolds, linksHold, ownersOf, allOnes, linkedOf, plainOf, slotHolds, payloadsHold, endsHold, grownOf}
 use Rattle.rule_tree.proofs.Lists.{countBelow-yes, countBelow-no}
 
@@ -88,27 +88,27 @@ leaf-counts-none nodes i x l h =
 
 -- ---- plain
 module _ (x : Node) where
-  pub plain-marked : toBits binary64 (x .action .«window_multiplier») ≡ 0 → ofZ w32 (x .action .«window_increment») ≡ 0
-      → toBits binary64 (x .action .«intersend_delay» .0) ≡ 0 → not (x .optimized) ≡ plainOf x
+  pub plain-marked : toBits binary64 (x .«window_multiplier») ≡ 0 → ofZ w32 (x .«window_increment») ≡ 0
+      → toBits binary64 (x .«intersend_delay» .0) ≡ 0 → not (x .optimized) ≡ plainOf x
   unfolding plainOf
   plain-marked a b d = rw (eq-eqb _ _ a, eq-eqb _ _ b, eq-eqb _ _ d)
 
-  pub plain-delay : toBits binary64 (x .action .«window_multiplier») ≡ 0 → ofZ w32 (x .action .«window_increment») ≡ 0
-      → (toBits binary64 (x .action .«intersend_delay» .0) ≡ 0 → ⊥) → false ≡ plainOf x
+  pub plain-delay : toBits binary64 (x .«window_multiplier») ≡ 0 → ofZ w32 (x .«window_increment») ≡ 0
+      → (toBits binary64 (x .«intersend_delay» .0) ≡ 0 → ⊥) → false ≡ plainOf x
   unfolding plainOf
   plain-delay a b d = rw (eq-eqb _ _ a, eq-eqb _ _ b, ne-eqb _ _ d)
 
-  pub plain-increment : toBits binary64 (x .action .«window_multiplier») ≡ 0
-      → (ofZ w32 (x .action .«window_increment») ≡ 0 → ⊥) → false ≡ plainOf x
+  pub plain-increment : toBits binary64 (x .«window_multiplier») ≡ 0
+      → (ofZ w32 (x .«window_increment») ≡ 0 → ⊥) → false ≡ plainOf x
   unfolding plainOf
   plain-increment a b = rw (eq-eqb _ _ a, ne-eqb _ _ b)
 
-  pub plain-multiplier : (toBits binary64 (x .action .«window_multiplier») ≡ 0 → ⊥) → false ≡ plainOf x
+  pub plain-multiplier : (toBits binary64 (x .«window_multiplier») ≡ 0 → ⊥) → false ≡ plainOf x
   unfolding plainOf
   plain-multiplier a = rw (ne-eqb _ _ a)
 
   -- ---- slot_holds
-  pub slot-used : (used : Bool) → used ≡ true → validOf (x .action) ≡ slotHolds x used
+  pub slot-used : (used : Bool) → used ≡ true → validOf (actionIn x) ≡ slotHolds x used
   unfolding slotHolds
   slot-used used u = rw u
 

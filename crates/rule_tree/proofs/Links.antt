@@ -12,7 +12,7 @@ use Rattle.remy.specs.Action.{validOf}
 use Rattle.remy.specs.Cube.{childCube, rootOf, usualEnds, endsAdmitted, Whole}
 use Rattle.rule_tree.specs.declared.RuleTree.{RuleTree}
 use Rattle.rule_tree.specs.Lists.{occurrences}
-use Rattle.rule_tree.specs.Nodes.{nodeAt, childrenOf, nodeCount}
+use Rattle.rule_tree.specs.Nodes.{nodeAt, childrenOf, nodeCount, actionIn}
 use Rattle.rule_tree.specs.Grown.{linkHolds, linksHold, ownersOf, allOnes, linkedOf, plainOf, slotHolds, payloadsHold, endsHold, grownOf}
 use Rattle.rule_tree.specs.Cubes.{ownerBelow, splitNodes, cubeAt, cubeOf}
 use Rattle.rule_tree.proofs.Lists.{allBelow-at, allBelow-all, getD-tabulate}
@@ -185,7 +185,7 @@ module _ (t : RuleTree) (g : grownOf t ≡ true) where
   pub grown-slot-holds : (i : ℕ) → i < 513 → slotHolds (nodeAt (t .nodes) i) (ltb i (nodeCount (t .splits))) ≡ true
   grown-slot-holds i l = allBelow-at 513 i (λ i. slotHolds (nodeAt (t .nodes) i) (ltb i (nodeCount (t .splits)))) grown-payloads l
 
-  pub grown-valid : (i : ℕ) → i < nodeCount (t .splits) → validOf (nodeAt (t .nodes) i .action) ≡ true
+  pub grown-valid : (i : ℕ) → i < nodeCount (t .splits) → validOf (actionIn (nodeAt (t .nodes) i)) ≡ true
   grown-valid i l =
       let s = grown-splits in
       slot-used (nodeAt (t .nodes) i) (ltb i (nodeCount (t .splits))) (lt-ltb _ _ l) ∙ grown-slot-holds i (omega arith)

@@ -17,7 +17,7 @@ use Rattle.rule_tree.specs.declared.Tallied.{Tallied}
 use Rattle.rule_tree.specs.declared.Tallied.the-variants as tallied
 use Rattle.rule_tree.specs.declared.inner.walk.Reached.{Reached}
 use Rattle.rule_tree.specs.Lists.{total}
-use Rattle.rule_tree.specs.Nodes.{nodeAt, childrenOf, nodeCount, slots}
+use Rattle.rule_tree.specs.Nodes.{nodeAt, childrenOf, nodeCount, slots, actionIn}
 use Rattle.rule_tree.specs.Grown.{grownOf}
 use Rattle.rule_tree.specs.Walk.{walkOf, Walkable, leafOf}
 use Rattle.rule_tree.specs.Counts.{limit, cappedTotal, countsHold}
@@ -54,12 +54,12 @@ pub leaf-slot : (t : RuleTree) → grownOf t ≡ true → (n : ℕ) → n < node
 leaf-slot t g n l = let a = grown-splits t g in omega arith
 
 -- ---- looked
-pub look-at : (t : RuleTree) (p : Point) (n : ℕ) → containsOf (rootOf (t .ends)) p ≡ true → n ≡ leafOf t p → Found (nodeAt (t .nodes) n .action) ≡ foundIn t p
+pub look-at : (t : RuleTree) (p : Point) (n : ℕ) → containsOf (rootOf (t .ends)) p ≡ true → n ≡ leafOf t p → Found (actionIn (nodeAt (t .nodes) n)) ≡ foundIn t p
 unfolding foundIn
 look-at t p n h e = rw (h, e)
 
 pub look-found : (t : RuleTree) (p : Point) (r : Reached) → containsOf (rootOf (t .ends)) p ≡ true → r ≡ walkOf (childrenOf (t .nodes)) (rootOf (t .ends)) p
-    → Found (nodeAt (t .nodes) (r .node) .action) ≡ foundIn t p
+    → Found (actionIn (nodeAt (t .nodes) (r .node))) ≡ foundIn t p
 look-found t p r h e = look-at t p (r .node) h (ap (λ (x : Reached). x .node) e)
 
 pub look-nothing : (t : RuleTree) (p : Point) (root : Cube) (b : Bool) → root ≡ rootOf (t .ends) → b ≡ containsOf root p → b ≡ false → Nothing ≡ foundIn t p
@@ -68,18 +68,18 @@ look-nothing t p root b r h y = rw (contained t p root b false r h y)
 
 -- ---- looked_replaced
 module _ (t : RuleTree) (leaf : ℕ) (a : Action) (p : Point) (r : Reached) (h : containsOf (rootOf (t .ends)) p ≡ true) (e : r ≡ walkOf (childrenOf (t .nodes)) (rootOf (t .ends)) p) where
-  replaced-at : Found (nodeAt (withAction t leaf a .nodes) (r .node) .action) ≡ foundIn (withAction t leaf a) p
+  replaced-at : Found (actionIn (nodeAt (withAction t leaf a .nodes) (r .node))) ≡ foundIn (withAction t leaf a) p
   replaced-at = look-found (withAction t leaf a) p r h (rw (action-links t leaf a) e)
 
   pub replaced-same : leaf < length (t .nodes) → r .node ≡ leaf → Found a ≡ foundIn (withAction t leaf a) p
   replaced-same l q =
-      ap (λ (y : Node). Found (y .action)) (sym (action-at t leaf a l))
-      ∙ ap (λ (i : ℕ). Found (nodeAt (withAction t leaf a .nodes) i .action)) (sym q)
+      ap (λ (y : Node). Found (actionIn y)) (sym (action-at t leaf a l))
+      ∙ ap (λ (i : ℕ). Found (actionIn (nodeAt (withAction t leaf a .nodes) i))) (sym q)
       ∙ replaced-at
 
-  pub replaced-other : (r .node ≡ leaf → ⊥) → Found (nodeAt (t .nodes) (r .node) .action) ≡ foundIn (withAction t leaf a) p
+  pub replaced-other : (r .node ≡ leaf → ⊥) → Found (actionIn (nodeAt (t .nodes) (r .node))) ≡ foundIn (withAction t leaf a) p
   replaced-other q =
-      ap (λ (y : Node). Found (y .action)) (sym (action-other t leaf a (r .node) q)) ∙ replaced-at
+      ap (λ (y : Node). Found (actionIn y)) (sym (action-other t leaf a (r .node) q)) ∙ replaced-at
 
 pub replaced-nothing : (t : RuleTree) (leaf : ℕ) (a : Action) (p : Point) (root : Cube) (b : Bool) → root ≡ rootOf (t .ends) → b ≡ containsOf root p → b ≡ false
     → Nothing ≡ foundIn (withAction t leaf a) p

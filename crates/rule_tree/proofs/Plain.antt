@@ -21,7 +21,7 @@ use Rattle.remy.specs.Action.{actionOf}
 use Rattle.remy.specs.Cube.{ack, send, ratio, usualEnds, endsAdmitted, pointEqual, pointOf, rootOf, Whole}
 use Rattle.remy.proofs.Ends.{whole-admitted, equal-ends, usual-admitted}
 use Rattle.rule_tree.specs.declared.Node.{Node}
-use Rattle.rule_tree.specs.Nodes.{noAction}
+use Rattle.rule_tree.specs.Nodes.{noAction, actionIn}
 use Rattle.rule_tree.specs.Grown.{plainOf, endsHold}
 pub use Rattle.rule_tree.proofs.Lists.{and-left as and-l, and-right as and-r}
 
@@ -45,29 +45,29 @@ zero-int : (z : ℤ) → SFits w32 z → ofZ w32 z ≡ 0 → z ≡ pos 0
 zero-int z h e = sym (toZ-ofZ w32 z h) ∙ ap (toZ w32) e
 
 module _ (x : Node) (h : plainOf x ≡ true) where
-  plain-tail : eqb (ofZ w32 (x .action .«window_increment»)) 0
-      && (eqb (toBits binary64 (x .action .«intersend_delay» .0)) 0 && not (x .optimized)) ≡ true
+  plain-tail : eqb (ofZ w32 (x .«window_increment»)) 0
+      && (eqb (toBits binary64 (x .«intersend_delay» .0)) 0 && not (x .optimized)) ≡ true
   unfolding plainOf
-  plain-tail = and-r (eqb (toBits binary64 (x .action .«window_multiplier»)) 0) _ h
+  plain-tail = and-r (eqb (toBits binary64 (x .«window_multiplier»)) 0) _ h
 
-  plain-head : eqb (toBits binary64 (x .action .«window_multiplier»)) 0 ≡ true
+  plain-head : eqb (toBits binary64 (x .«window_multiplier»)) 0 ≡ true
   unfolding plainOf
-  plain-head = and-l (eqb (toBits binary64 (x .action .«window_multiplier»)) 0) _ h
+  plain-head = and-l (eqb (toBits binary64 (x .«window_multiplier»)) 0) _ h
 
-  plain-end : eqb (toBits binary64 (x .action .«intersend_delay» .0)) 0 && not (x .optimized) ≡ true
-  plain-end = and-r (eqb (ofZ w32 (x .action .«window_increment»)) 0) _ plain-tail
+  plain-end : eqb (toBits binary64 (x .«intersend_delay» .0)) 0 && not (x .optimized) ≡ true
+  plain-end = and-r (eqb (ofZ w32 (x .«window_increment»)) 0) _ plain-tail
 
   pub plain-unmarked : x .optimized ≡ false
-  plain-unmarked = not-true (x .optimized) (and-r (eqb (toBits binary64 (x .action .«intersend_delay» .0)) 0) _ plain-end)
+  plain-unmarked = not-true (x .optimized) (and-r (eqb (toBits binary64 (x .«intersend_delay» .0)) 0) _ plain-end)
 
-  pub plain-action : ActionFits (x .action) → x .action ≡ noAction
+  pub plain-action : ActionFits (actionIn x) → actionIn x ≡ noAction
   plain-action f =
-      let m = zero-bits (x .action .«window_multiplier») (f .multiplier) (eqb-true _ _ plain-head) in
-      let i = zero-int (x .action .«window_increment») (f .increment)
-      (eqb-true _ _ (and-l (eqb (ofZ w32 (x .action .«window_increment»)) 0) _ plain-tail)) in
-      let d = zero-bits (x .action .«intersend_delay» .0) (f .delay)
-      (eqb-true _ _ (and-l (eqb (toBits binary64 (x .action .«intersend_delay» .0)) 0) _ plain-end)) in
-      rebuilt (x .action) _ _ _ m i d
+      let m = zero-bits (x .«window_multiplier») (f .multiplier) (eqb-true _ _ plain-head) in
+      let i = zero-int (x .«window_increment») (f .increment)
+      (eqb-true _ _ (and-l (eqb (ofZ w32 (x .«window_increment»)) 0) _ plain-tail)) in
+      let d = zero-bits (x .«intersend_delay» .0) (f .delay)
+      (eqb-true _ _ (and-l (eqb (toBits binary64 (x .«intersend_delay» .0)) 0) _ plain-end)) in
+      rebuilt (actionIn x) _ _ _ m i d
     where
       rebuilt : (a : Action) (m : Float) (i : ℤ) (d : Float) → a .«window_multiplier» ≡ m → a .«window_increment» ≡ i
           → a .«intersend_delay» .0 ≡ d → a ≡ actionOf m i d

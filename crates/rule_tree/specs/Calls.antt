@@ -27,7 +27,7 @@ use Rattle.rule_tree.specs.declared.Number.the-variants as number
 use Rattle.rule_tree.specs.declared.Compared.{Compared}
 use Rattle.rule_tree.specs.declared.Compared.the-variants as compared
 use Rattle.rule_tree.specs.Lists.{countBelow, total}
-use Rattle.rule_tree.specs.Nodes.{nodeAt, isLeaf, nodeCount, noAction, slots, mostSplits}
+use Rattle.rule_tree.specs.Nodes.{nodeAt, isLeaf, nodeCount, noAction, slots, mostSplits, actionIn}
 use Rattle.rule_tree.specs.Grown.{grownOf}
 use Rattle.rule_tree.specs.Cubes.{cubeOf}
 use Rattle.rule_tree.specs.Walk.{leafOf}
@@ -98,7 +98,7 @@ domainOf t i = guarded (domainOrder t i) domain.Refused (domain.Of (cubeOf t i))
 -- what a point finds in a grown tree
 unfoldable pub foundIn : RuleTree → Point → Looked
 foundIn t p =
-    cond (containsOf (rootOf (t .ends)) p) (Found (nodeAt (t .nodes) (leafOf t p) .action)) looked.Nothing
+    cond (containsOf (rootOf (t .ends)) p) (Found (actionIn (nodeAt (t .nodes) (leafOf t p)))) looked.Nothing
 
 -- lookup
 unfoldable pub lookupOf : RuleTree → Point → Looked

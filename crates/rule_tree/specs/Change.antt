@@ -9,7 +9,7 @@ use Rattle.remy.specs.declared.point.Point.{Point}
 use Rattle.rule_tree.specs.declared.Node.{Node}
 use Rattle.rule_tree.specs.declared.RuleTree.{RuleTree}
 use Rattle.rule_tree.specs.Lists.{fill}
-use Rattle.rule_tree.specs.Nodes.{nodeAt, leafWith, linkedTo, blankNode, childrenOf, slots}
+use Rattle.rule_tree.specs.Nodes.{nodeAt, leafWith, linkedTo, blankNode, childrenOf, slots, actionIn, nodeHolding}
 use Rattle.rule_tree.specs.Cubes.{ownerBelow}
 
 -- "Node 0 is the root leaf"
@@ -22,15 +22,15 @@ withNodes t nodes = record { nodes = nodes; splits = t .splits; ends = t .ends }
 -- set action keeps the mark
 abbrev pub withAction : RuleTree → ℕ → Action → RuleTree
 withAction t i a =
-    withNodes t (set (t .nodes) i (record { action = a; children = nodeAt (t .nodes) i .children; optimized = nodeAt (t .nodes) i .optimized }))
+    withNodes t (set (t .nodes) i (nodeHolding a (nodeAt (t .nodes) i .children) (nodeAt (t .nodes) i .optimized)))
 
 abbrev pub withMark : RuleTree → ℕ → RuleTree
 withMark t i =
-    withNodes t (set (t .nodes) i (record { action = nodeAt (t .nodes) i .action; children = nodeAt (t .nodes) i .children; optimized = true }))
+    withNodes t (set (t .nodes) i (nodeHolding (actionIn (nodeAt (t .nodes) i)) (nodeAt (t .nodes) i .children) true))
 
 -- marks are of leaves
 unfoldable pub unmarkedNode : Node → Node
-unmarkedNode x = cond (eqb (x .children) 0) (record { action = x .action; children = x .children; optimized = false }) x
+unmarkedNode x = cond (eqb (x .children) 0) (nodeHolding (actionIn x) (x .children) false) x
 
 abbrev pub withoutMarks : RuleTree → RuleTree
 withoutMarks t = withNodes t (map unmarkedNode (t .nodes))
@@ -42,7 +42,7 @@ unfolding fill
 splitAt t i =
     let first = 8 * t .splits + 1 in
     record {
-      nodes = fill (set (t .nodes) i (linkedTo (nodeAt (t .nodes) i) first)) first 8 (leafWith (nodeAt (t .nodes) i .action));
+      nodes = fill (set (t .nodes) i (linkedTo (nodeAt (t .nodes) i) first)) first 8 (leafWith (actionIn (nodeAt (t .nodes) i)));
       splits = t .splits + 1;
       ends = t .ends;
     }

@@ -15,7 +15,7 @@ use Rattle.remy.specs.Cube.{pointEqual, childCube, rootOf}
 use Rattle.rule_tree.specs.declared.Node.{Node}
 use Rattle.rule_tree.specs.declared.RuleTree.{RuleTree}
 use Rattle.rule_tree.specs.Lists.{allBelow, tabulate}
-use Rattle.rule_tree.specs.Nodes.{nodeAt, slots}
+use Rattle.rule_tree.specs.Nodes.{nodeAt, slots, actionIn, nodeHolding}
 
 unfoldable pub cubeEqual : Cube → Cube → Bool
 unfolding pointEqual
@@ -35,7 +35,7 @@ nodeEqual (suc depth) s t i j c d =
     let y = nodeAt t j in
     cubeEqual c d
     && cond (eqb (x .children) 0)
-    (cond (eqb (y .children) 0) (actionEqual (x .action) (y .action)) false)
+    (cond (eqb (y .children) 0) (actionEqual (actionIn x) (actionIn y)) false)
     (cond (eqb (y .children) 0) false
     (allBelow 8 (λ k. nodeEqual depth s t (x .children + k) (y .children + k) (childCube c k) (childCube d k))))
 
@@ -53,11 +53,11 @@ actionFrom xs i = actionOf (getD xs (3 * i) nan) (toSigned 31 (getD xs (3 * i + 
 
 -- such numbers hold the actions of the first n nodes
 abbrev pub ActionsHeld : List Node → List Float → ℕ → Type 0
-ActionsHeld nodes xs n = (k : ℕ) → k < n → actionFrom xs k ≡ nodeAt nodes k .action
+ActionsHeld nodes xs n = (k : ℕ) → k < n → actionFrom xs k ≡ actionIn (nodeAt nodes k)
 
 -- the nodes that links and such numbers hold, unmarked
 abbrev pub nodeFrom : List ℕ → List Float → ℕ → Node
-nodeFrom cs xs i = record { action = actionFrom xs i; children = getD cs i 0; optimized = false }
+nodeFrom cs xs i = nodeHolding (actionFrom xs i) (getD cs i 0) false
 
 unfoldable pub nodesFrom : List ℕ → List Float → List Node
 nodesFrom cs xs = tabulate slots (nodeFrom cs xs)

@@ -13,7 +13,7 @@ use Rattle.remy.specs.Cube.{pointEqual, usualEnds}
 use Rattle.rule_tree.specs.declared.Node.{Node}
 use Rattle.rule_tree.specs.declared.RuleTree.{RuleTree}
 use Rattle.rule_tree.specs.Lists.{allBelow, occurrences, tabulate}
-use Rattle.rule_tree.specs.Nodes.{nodeAt, childrenOf, nodeCount, slots, mostSplits}
+use Rattle.rule_tree.specs.Nodes.{nodeAt, childrenOf, nodeCount, slots, mostSplits, actionIn}
 
 -- node i with children c is a leaf, or a parent whose first child is the first of a split's eight nodes and comes after it
 unfoldable pub linkHolds : ℕ → ℕ → ℕ → Bool
@@ -37,13 +37,13 @@ linkedOf cs s = leb s mostSplits && (linksHold cs s && allOnes (ownersOf cs) s)
 -- the action is (+0, 0, +0), bit by bit, and the node is unmarked
 unfoldable pub plainOf : Node → Bool
 plainOf x =
-    eqb (toBits binary64 (x .action .«window_multiplier»)) 0
-    && (eqb (ofZ w32 (x .action .«window_increment»)) 0 && (eqb (toBits binary64 (x .action .«intersend_delay» .0)) 0 && not (x .optimized)))
+    eqb (toBits binary64 (x .«window_multiplier»)) 0
+    && (eqb (ofZ w32 (x .«window_increment»)) 0 && (eqb (toBits binary64 (x .«intersend_delay» .0)) 0 && not (x .optimized)))
 
 -- the action of a leaf, and that which a parent keeps, is valid; a slot that is not in use holds nothing
 unfoldable pub slotHolds : Node → Bool → Bool
 unfolding plainOf
-slotHolds x used = cond used (validOf (x .action)) (plainOf x)
+slotHolds x used = cond used (validOf (actionIn x)) (plainOf x)
 
 abbrev pub payloadsHold : List Node → ℕ → Bool
 payloadsHold nodes s = allBelow slots (λ i. slotHolds (nodeAt nodes i) (ltb i (nodeCount s)))

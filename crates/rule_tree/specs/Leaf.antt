@@ -11,7 +11,7 @@ use Rattle.rule_tree.specs.declared.Looked.{Looked}
 use Rattle.rule_tree.specs.declared.Looked.the-variants as looked
 use Rattle.rule_tree.specs.declared.inner.leaf.Holder.{Holder}
 use Rattle.rule_tree.specs.declared.inner.leaf.Holder.the-variants.{Leaf, Nothing}
-use Rattle.rule_tree.specs.Nodes.{nodeAt}
+use Rattle.rule_tree.specs.Nodes.{nodeAt, actionIn}
 use Rattle.rule_tree.specs.Grown.{linksHold}
 use Rattle.rule_tree.specs.Walk.{walkOf}
 
@@ -25,5 +25,5 @@ leafHolding cs root p = cond (containsOf root p) (Leaf (walkOf cs root p .node))
 
 -- what is found there: the leaf's action, or nothing
 unfoldable pub foundBy : List Node → Holder → Looked
-foundBy nodes (Leaf i) = looked.Found (nodeAt nodes i .action)
+foundBy nodes (Leaf i) = looked.Found (actionIn (nodeAt nodes i))
 foundBy nodes Nothing = looked.Nothing

@@ -12,16 +12,36 @@ use Rattle.remy.specs.Cube.{zero}
 use Rattle.rule_tree.specs.declared.Node.{Node}
 use Rattle.rule_tree.specs.declared.RuleTree.{RuleTree}
 
+-- the action of a node
+abbrev pub actionIn : Node → Action
+actionIn x =
+    record {
+      «window_multiplier» = x .«window_multiplier»;
+      «window_increment» = x .«window_increment»;
+      «intersend_delay» = x .«intersend_delay»;
+    }
+
+-- the node that holds an action, its first child's number, 0 for a leaf, and a mark
+abbrev pub nodeHolding : Action → ℕ → Bool → Node
+nodeHolding a first marked =
+    record {
+      «window_multiplier» = a .«window_multiplier»;
+      «intersend_delay» = a .«intersend_delay»;
+      «window_increment» = a .«window_increment»;
+      children = first;
+      optimized = marked;
+    }
+
 -- what reading past the end of an array of nodes gives
 abbrev pub noNode : Node
-noNode = record { action = actionOf nan (pos 0) nan; children = 0; optimized = false }
+noNode = nodeHolding (actionOf nan (pos 0) nan) 0 false
 
 abbrev pub nodeAt : List Node → ℕ → Node
 nodeAt nodes i = getD nodes i noNode
 
 -- an unmarked leaf
 abbrev pub leafWith : Action → Node
-leafWith a = record { action = a; children = 0; optimized = false }
+leafWith a = nodeHolding a 0 false
 
 -- the action of a slot that is not in use: (+0, 0, +0)
 abbrev pub noAction : Action
@@ -29,7 +49,7 @@ noAction = actionOf zero (pos 0) zero
 
 -- a node with the action and mark of another, and first for its first child: 0 for a leaf
 abbrev pub linkedTo : Node → ℕ → Node
-linkedTo x first = record { action = x .action; children = first; optimized = x .optimized }
+linkedTo x first = nodeHolding (actionIn x) first (x .optimized)
 
 abbrev pub blankNode : Node
 blankNode = leafWith noAction

@@ -1,8 +1,10 @@
 // The rule tree: boxes of a sender's memory, with one action a leaf. Every public call tests the tree first.
 ghost use mathlib.Core.Path.{_≡_};
 ghost use mathlib.Core.Bool.{false, true};
+ghost use Rattle.rule_tree.specs.Nodes.{actionIn, nodeHolding};
 ghost use Rattle.rule_tree.specs.Grown.{grownOf};
 ghost use Rattle.rule_tree.specs.Calls.{newOf, domainOf, lookupOf, replacedOf, tallyOf, countedIn, setOf, markOf, clearOf, splitOf, undoOf, parentsOf, usedOf, mostUsedOf, equalOf};
+use quantities::TimeSpan;
 use remy::action::Action;
 use remy::cube::Cube;
 use remy::point::Point;
@@ -22,10 +24,39 @@ pub const MOST_NODES: u16 = NODES as u16;
 pub const MOST_COUNTED: u64 = 1 << 53;
 
 // A node: a leaf where children is 0, else a parent whose first child has that number.
+// The fields of its action stand side by side with them, the widest first, so that a node takes 24 bytes.
 pub struct Node {
-    pub action: Action,
+    pub window_multiplier: f64,
+    pub intersend_delay: TimeSpan,
+    pub window_increment: i32,
     pub children: u16,
     pub optimized: bool,
+}
+
+impl Node {
+    pub fn new(action: Action, children: u16, optimized: bool) -> Node
+        ensures { λ r. ⌜ r ≡ nodeHolding action children optimized ⌝ }
+    {
+        let intersend_delay = action.intersend_delay;
+        Node {
+            window_multiplier: action.window_multiplier,
+            intersend_delay,
+            window_increment: action.window_increment,
+            children,
+            optimized,
+        }
+    }
+
+    pub fn action(self) -> Action
+        ensures { λ r. ⌜ r ≡ actionIn self ⌝ }
+    {
+        let intersend_delay = self.intersend_delay;
+        Action {
+            window_multiplier: self.window_multiplier,
+            window_increment: self.window_increment,
+            intersend_delay,
+        }
+    }
 }
 
 pub struct RuleTree {

@@ -4,7 +4,7 @@ ghost use mathlib.Core.Bool.{true};
 ghost use Prim.Native.Nat.{_+_, _≤_, _<_};
 ghost use lib.Dec.{ltb};
 ghost use Rattle.rule_tree.specs.Lists.{fill};
-ghost use Rattle.rule_tree.specs.Nodes.{nodeCount, slots, mostSplits};
+ghost use Rattle.rule_tree.specs.Nodes.{blankNode, nodeCount, slots, mostSplits};
 ghost use Rattle.rule_tree.specs.Change.{freshTree, withNodes, withAction, withMark, unmarkedNode, withoutMarks, splitAt, newestParent, undone};
 ghost use Rattle.rule_tree.specs.Calls.{leafIn, blankTree};
 use crate::NODES;
@@ -32,20 +32,19 @@ pub fn is_leaf(t: RuleTree, i: u16) -> bool
     false
 }
 
+// A slot that is not in use.
+fn blank_node() -> Node
+    ensures { λ r. ⌜ r ≡ blankNode ⌝ }
+{
+    let none = Action::new(0.0, 0, 0.0);
+    Node::new(none, 0, false)
+}
+
 pub fn fresh(ends: Point, action: Action) -> RuleTree
     ensures { λ r. ⌜ r ≡ freshTree ends action ⌝ }
 {
-    let none = Action::new(0.0, 0, 0.0);
-    let blank = Node {
-        action: none,
-        children: 0,
-        optimized: false,
-    };
-    let leaf = Node {
-        action,
-        children: 0,
-        optimized: false,
-    };
+    let blank = blank_node();
+    let leaf = Node::new(action, 0, false);
     let mut nodes = [blank; NODES];
     nodes[0] = leaf;
     RuleTree {
@@ -70,11 +69,7 @@ pub fn with_action(t: RuleTree, i: u16, action: Action) -> RuleTree
 {
     let at = i as usize;
     let x = t.nodes[at];
-    let y = Node {
-        action,
-        children: x.children,
-        optimized: x.optimized,
-    };
+    let y = Node::new(action, x.children, x.optimized);
     let mut out = t;
     out.nodes[at] = y;
     out
@@ -85,15 +80,10 @@ pub fn with_mark(t: RuleTree, i: u16) -> RuleTree
     ensures { λ r. ⌜ r ≡ withMark t i ⌝ }
 {
     let at = i as usize;
-    let x = t.nodes[at];
-    let a = x.action;
-    let y = Node {
-        action: a,
-        children: x.children,
-        optimized: true,
-    };
+    let mut x = t.nodes[at];
+    x.optimized = true;
     let mut out = t;
-    out.nodes[at] = y;
+    out.nodes[at] = x;
     out
 }
 
@@ -101,12 +91,9 @@ fn unmarked(x: Node) -> Node
     ensures { λ r. ⌜ r ≡ unmarkedNode x ⌝ }
 {
     if x.children == 0 {
-        let a = x.action;
-        return Node {
-            action: a,
-            children: x.children,
-            optimized: false,
-        };
+        let mut y = x;
+        y.optimized = false;
+        return y;
     }
     x
 }
@@ -144,18 +131,12 @@ pub fn split_at(t: RuleTree, i: u16) -> RuleTree
 {
     let at = i as usize;
     let x = t.nodes[at];
-    let a = x.action;
     let first = 8 * t.splits + 1;
-    let parent = Node {
-        action: a,
-        children: first,
-        optimized: x.optimized,
-    };
-    let child = Node {
-        action: a,
-        children: 0,
-        optimized: false,
-    };
+    let mut parent = x;
+    parent.children = first;
+    let mut child = x;
+    child.children = 0;
+    child.optimized = false;
     let mut out = t;
     out.nodes[at] = parent;
     let mut grown = eight_filled(out, first as usize, child);
@@ -178,20 +159,10 @@ pub fn undo(t: RuleTree) -> RuleTree
     requires { ⌜ (0 < t .splits) × (t .splits ≤ mostSplits) ⌝ }
     ensures { λ r. ⌜ r ≡ undone t ⌝ }
 {
-    let none = Action::new(0.0, 0, 0.0);
-    let blank = Node {
-        action: none,
-        children: 0,
-        optimized: false,
-    };
+    let blank = blank_node();
     let at = newest_parent(t) as usize;
-    let x = t.nodes[at];
-    let a = x.action;
-    let kept = Node {
-        action: a,
-        children: 0,
-        optimized: x.optimized,
-    };
+    let mut kept = t.nodes[at];
+    kept.children = 0;
     let mut out = t;
     out.nodes[at] = kept;
     let first = 8 * (t.splits - 1) + 1;

@@ -55,9 +55,9 @@ fn actions_of(t: RuleTree) -> [f64; PARTS]
     let mut i: usize = 0;
     while i < NODES {
         let x = t.nodes[i];
-        let multiplier = x.action.window_multiplier;
-        let increment = x.action.window_increment as f64;
-        let delay = x.action.intersend_delay.0;
+        let multiplier = x.window_multiplier;
+        let increment = x.window_increment as f64;
+        let delay = x.intersend_delay.0;
         out[3 * i] = multiplier;
         out[3 * i + 1] = increment;
         out[3 * i + 2] = delay;

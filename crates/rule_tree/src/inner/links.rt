@@ -109,9 +109,9 @@ pub fn linked(children: &[u16; NODES], splits: u16) -> bool
 fn plain(x: Node) -> bool
     ensures { λ r. ⌜ r ≡ plainOf x ⌝ }
 {
-    if floats::to_bits(x.action.window_multiplier) == 0 {
-        if x.action.window_increment == 0 {
-            if floats::to_bits(x.action.intersend_delay.0) == 0 {
+    if floats::to_bits(x.window_multiplier) == 0 {
+        if x.window_increment == 0 {
+            if floats::to_bits(x.intersend_delay.0) == 0 {
                 return !x.optimized;
             }
         }
@@ -123,7 +123,7 @@ fn slot_holds(x: Node, used: bool) -> bool
     ensures { λ r. ⌜ r ≡ slotHolds x used ⌝ }
 {
     if used {
-        let a = x.action;
+        let a = x.action();
         return a.valid();
     }
     plain(x)

@@ -64,7 +64,7 @@ pub fn looked(t: RuleTree, p: Point) -> Looked
     if root.contains(p) {
         let i = leaf_at(t, root, p) as usize;
         let x = t.nodes[i];
-        let a = x.action;
+        let a = x.action();
         return Looked::Found(a);
     }
     Looked::Nothing
@@ -84,7 +84,7 @@ pub fn looked_replaced(t: RuleTree, leaf: u16, action: Action, p: Point) -> Look
         }
         let i = node as usize;
         let x = t.nodes[i];
-        let a = x.action;
+        let a = x.action();
         return Looked::Found(a);
     }
     Looked::Nothing

@@ -1,9 +1,11 @@
 -- `fresh` meets its contract. Assumes nothing.
 use borrow.Author.Needs.{needs}
-use lib.Ieee.{ofBits}
 use Rattle.rule_tree.proofs.ChangeWays.{fresh-made}
 use Rattle.rule_tree.proofs.inner.change.fresh.Statement.{statement}
 use Rattle.rule_tree.proofs.inner.change.fresh.Tie as tie
+
+blank-node-requires : tie.Need-blank-node-requires
+blank-node-requires c κs = search needs
 
 new-requires : tie.Need-new-requires
 new-requires c κs = search needs
@@ -12,8 +14,7 @@ array-set-from-nodes : tie.Need-array-set-from-nodes
 array-set-from-nodes c = search needs
 
 returns : tie.Need-returns
-unfolding ofBits
-returns c = fresh-made _ _ _ (c .new .ensures)
+returns c = fresh-made _ _ _ _ (c .before .blank-node .ensures) (c .new .ensures)
 
 pub fresh-spec : {M : Type 1} → statement M
-fresh-spec = tie.close (tie.spec new-requires array-set-from-nodes returns)
+fresh-spec = tie.close (tie.spec blank-node-requires new-requires array-set-from-nodes returns)

@@ -4,7 +4,7 @@ use Rattle.rule_tree.proofs.inner.change.unmarked.Statement.{statement}
 use Rattle.rule_tree.proofs.inner.change.unmarked.Tie as tie
 
 returns : tie.Need-returns
-returns c = unmarked-leaf _ (c .before .if1 .taken)
+returns c = unmarked-leaf _ (c .if1 .taken)
 
 returns-2 : tie.Need-returns-2
 returns-2 c = unmarked-parent _ (c .if1 .left)

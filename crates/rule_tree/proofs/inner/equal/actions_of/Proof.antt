@@ -4,7 +4,7 @@ use native.Mathlib.Omega.{arith}
 use borrow.Author.Needs.{needs}
 use lib.ListN.{length}
 use mathlib.Core.Path.{_≡_, refl, _∙_}
-use Rattle.rule_tree.specs.Nodes.{nodeAt, slots}
+use Rattle.rule_tree.specs.Nodes.{nodeAt, slots, actionIn}
 use Rattle.rule_tree.specs.Equal.{ActionsHeld}
 use Rattle.rule_tree.proofs.HeldActions as law
 use Rattle.rule_tree.proofs.inner.equal.actions_of.Statement.{statement}
@@ -72,7 +72,7 @@ loop-again c = (
   search needs,
   search needs,
   law.held-more (c .before .before .before .before .loop .out) (c .before .before .before .before .loop .i) _ _ _ (search needs) (c .before .before .before .before .before .args .t1 .nodes)
-      (law.increment-kept (nodeAt (c .before .before .before .before .before .args .t1 .nodes) (c .before .before .before .before .loop .i) .action) (search needs)) (c .before .before .before .before .loop .inv .2),
+      (law.increment-kept (actionIn (nodeAt (c .before .before .before .before .before .args .t1 .nodes) (c .before .before .before .before .loop .i))) (search needs)) (c .before .before .before .before .loop .inv .2),
 )
 
 returns : tie.Need-returns Inv-loop μ-loop

@@ -5,7 +5,7 @@ use native.Mathlib.Omega.{arith}
 use lib.ListN.{length, length-map}
 use borrow.Author.Needs.{needs}
 use Rattle.rule_tree.specs.declared.Looked.the-variants.{Found}
-use Rattle.rule_tree.specs.Nodes.{nodeAt}
+use Rattle.rule_tree.specs.Nodes.{nodeAt, actionIn}
 use Rattle.rule_tree.proofs.Looking as law
 use Rattle.rule_tree.proofs.inner.walk.looked_replaced.Statement.{statement}
 use Rattle.rule_tree.proofs.inner.walk.looked_replaced.Tie as tie
@@ -43,11 +43,15 @@ element-copy-out-x c =
     let s = c .before .before .before .before .before .before in
     law.leaf-slot (s .args .t1) (s .pre .0) _ (c .before .leaf-at .ensures .1)
 
+action-requires : tie.Need-action-requires
+action-requires c κs = search needs
+
 returns-2 : tie.Need-returns-2
 returns-2 c =
     let l = c .before .before .before in
     let s = l .before .before .before .before .before in
-    ap (λ (n : ℕ). Found (nodeAt (s .args .t1 .nodes) n .action)) (l .leaf-at .ensures .0)
+    ap Found (c .action .ensures)
+    ∙ ap (λ (n : ℕ). Found (actionIn (nodeAt (s .args .t1 .nodes) n))) (l .leaf-at .ensures .0)
     ∙ law.replaced-other (s .args .t1) (s .args .leaf) (s .args .action) (s .args .p) _
     (law.contained (s .args .t1) (s .args .p) _ (l .before .before .contains .result) _ (l .before .before .before .root .ensures) (l .before .before .contains .ensures) (l .before .if1 .taken))
     refl
@@ -61,4 +65,4 @@ returns-3 c =
 pub looked-replaced-spec : {M : Type 1} → statement M
 looked-replaced-spec =
     tie.close
-    (tie.spec root-requires contains-requires leaf-at-requires returns cast-i mul-x element-copy-out-x returns-2 returns-3)
+    (tie.spec root-requires contains-requires leaf-at-requires returns cast-i mul-x element-copy-out-x action-requires returns-2 returns-3)
