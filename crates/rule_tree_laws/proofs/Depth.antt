@@ -9,7 +9,7 @@ use Rattle.remy.specs.declared.cube.Cube.{Cube}
 use Rattle.remy.specs.Cube.{childCube, rootOf}
 use Rattle.rule_tree.specs.declared.Node.{Node}
 use Rattle.rule_tree.specs.declared.RuleTree.{RuleTree}
-use Rattle.rule_tree.specs.Nodes.{nodeAt, nodeCount}
+use Rattle.rule_tree.specs.Nodes.{nodeAt, nodeCount, actionIn}
 use Rattle.rule_tree.specs.Grown.{grownOf}
 use Rattle.rule_tree.specs.Equal.{nodeEqual, treesEqual}
 use Rattle.rule_tree.proofs.Lists.{allBelow-same}
@@ -31,7 +31,7 @@ module _ (s t : List Node) where
         → SameAt (suc n) (suc m) i j c d
     unfolding nodeEqual levelOf
     parent-same h =
-        ap (levelOf c d (nodeAt s i .children) (nodeAt s i .action) (nodeAt t j .children) (nodeAt t j .action)) (allBelow-same 8 _ _ h)
+        ap (levelOf c d (nodeAt s i .children) (actionIn (nodeAt s i)) (nodeAt t j .children) (actionIn (nodeAt t j))) (allBelow-same 8 _ _ h)
 
   module _ (r : ℕ) (slots : (i : ℕ) → i < nodeCount r → Slot r i (nodeAt s i)) where
     -- node i needs no more depth than there are nodes from i on

@@ -21,7 +21,7 @@ use Rattle.remy.specs.Action.{validOf}
 use Rattle.remy.specs.Cube.{ack, send, ratio, pointEqual, leastEnd, endsAdmitted, halfOf, halfCube, childCube, rootOf}
 use Rattle.remy.proofs.Ends.{ends-from-one}
 use Rattle.rule_tree.specs.declared.Node.{Node}
-use Rattle.rule_tree.specs.Nodes.{nodeAt, nodeCount}
+use Rattle.rule_tree.specs.Nodes.{nodeAt, nodeCount, actionIn}
 use Rattle.rule_tree.specs.Equal.{cubeEqual, actionEqual, nodeEqual, childrenEqual}
 use Rattle.rule_tree.proofs.Lists.{allBelow-all}
 use Rattle.rule_tree.proofs.Plain.{and-l, and-r}
@@ -142,7 +142,7 @@ root-rising e h =
 
 -- ---- the nodes
 module _ (n : ℕ) (nodes : List Node) (i : ℕ) (c : Cube) (e : cubeEqual c c ≡ true) where
-  leaf-self : nodeAt nodes i .children ≡ 0 → actionEqual (nodeAt nodes i .action) (nodeAt nodes i .action) ≡ true → nodeEqual (suc n) nodes nodes i i c c ≡ true
+  leaf-self : nodeAt nodes i .children ≡ 0 → actionEqual (actionIn (nodeAt nodes i)) (actionIn (nodeAt nodes i)) ≡ true → nodeEqual (suc n) nodes nodes i i c c ≡ true
   unfolding nodeEqual
   leaf-self f h = rw (e, eq-eqb _ 0 f, h)
 
@@ -156,7 +156,7 @@ module _ (nodes : List Node) (s : ℕ) (slots : (i : ℕ) → i < nodeCount s �
   Deep n = (i : ℕ) (c : Cube) → i < nodeCount s → nodeCount s ≤ n + i → Rising c → nodeEqual n nodes nodes i i c c ≡ true
 
   deeper : (n : ℕ) → Deep n → (i : ℕ) (c : Cube) → nodeCount s ≤ suc n + i → Rising c → Slot s i (nodeAt nodes i) → nodeEqual (suc n) nodes nodes i i c c ≡ true
-  deeper n below i c h r (leaf f v) = leaf-self n nodes i c (cube-self c r) f (action-self (nodeAt nodes i .action) v)
+  deeper n below i c h r (leaf f v) = leaf-self n nodes i c (cube-self c r) f (action-self (actionIn (nodeAt nodes i)) v)
   deeper n below i c h r (parent a w) =
       parent-self n nodes i c (cube-self c r) (λ z. omega (arith, z))
       (allBelow-all 8 _ (λ k l. below (nodeAt nodes i .children + k) (childCube c k) (omega arith) (omega arith) (child-rising c k r)))

@@ -9,7 +9,7 @@ use lib.ListN.{set}
 use Rattle.remy.specs.Cube.{rootOf}
 use Rattle.rule_tree.specs.declared.Node.{Node}
 use Rattle.rule_tree.specs.declared.RuleTree.{RuleTree}
-use Rattle.rule_tree.specs.Nodes.{nodeAt}
+use Rattle.rule_tree.specs.Nodes.{nodeAt, actionIn, nodeHolding}
 use Rattle.rule_tree.specs.Change.{withMark, withoutMarks, unmarkedNode}
 use Rattle.rule_tree.specs.Grown.{grownOf}
 use Rattle.rule_tree.specs.Equal.{treesEqual}
@@ -42,7 +42,7 @@ unmarked-alike : (x : Node) → Alike (unmarkedNode x) x
 unfolding unmarkedNode
 unmarked-alike x = go (eqb (x .children) 0)
   where
-    go : (b : Bool) → Alike (cond b (record { action = x .action; children = x .children; optimized = false }) x) x
+    go : (b : Bool) → Alike (cond b (nodeHolding (actionIn x) (x .children) false) x) x
     go true = record { links = refl; actions = refl }
     go false = alike-self x
 

@@ -10,7 +10,7 @@ use lib.Seq.{getD-set-same, getD-set-other}
 use Rattle.remy.specs.Action.{validOf}
 use Rattle.rule_tree.specs.declared.Node.{Node}
 use Rattle.rule_tree.specs.declared.RuleTree.{RuleTree}
-use Rattle.rule_tree.specs.Nodes.{noNode, nodeAt, nodeCount, leafWith, blankNode}
+use Rattle.rule_tree.specs.Nodes.{noNode, nodeAt, nodeCount, leafWith, blankNode, actionIn}
 use Rattle.rule_tree.specs.Grown.{endsHold, grownOf}
 use Rattle.rule_tree.specs.Change.{freshTree, withAction, withMark, splitAt, newestParent, undone}
 use Rattle.rule_tree.specs.Calls.{leafIn}
@@ -37,20 +37,20 @@ record Dressed (u : RuleTree) (i : ℕ) (x : Node) : Type 0 where
 
 module _ (u : RuleTree) (g : Growth u) (i : ℕ) (l : i < nodeCount (u .splits)) (b : i < length (u .nodes)) (z : kids u i ≡ 0)
     (m : nodeAt (u .nodes) i .optimized ≡ false) where
-  acted : (x : Node) → x .children ≡ 0 → x .optimized ≡ false → validOf (x .action) ≡ true → Dressed u i x
+  acted : (x : Node) → x .children ≡ 0 → x .optimized ≡ false → validOf (actionIn x) ≡ true → Dressed u i x
   acted x c o v = record {
-    tree = withAction u i (x .action);
-    grown = act u i (x .action) g (leaf-in u i l z) v;
+    tree = withAction u i (actionIn x);
+    grown = act u i (actionIn x) g (leaf-in u i l z) v;
     splits = refl;
     ends = refl;
     count = length-set (u .nodes) i _;
-    at = getD-set-same (u .nodes) i _ noNode b ∙ sym (rebuilt x (x .action) _ _ refl (c ∙ sym z) (o ∙ sym m));
+    at = getD-set-same (u .nodes) i _ noNode b ∙ sym (rebuilt x (actionIn x) _ _ refl (c ∙ sym z) (o ∙ sym m));
     away = λ j n. getD-set-other (u .nodes) i j _ noNode n;
   }
 
-  marked : (x : Node) → x .children ≡ 0 → x .optimized ≡ true → validOf (x .action) ≡ true → Dressed u i x
+  marked : (x : Node) → x .children ≡ 0 → x .optimized ≡ true → validOf (actionIn x) ≡ true → Dressed u i x
   marked x c o v =
-      let y = leafWith (x .action) in
+      let y = leafWith (actionIn x) in
       let d = acted y refl refl v in
       let w = d .tree in
       record {
@@ -60,11 +60,11 @@ module _ (u : RuleTree) (g : Growth u) (i : ℕ) (l : i < nodeCount (u .splits))
         ends = d .ends;
         count = length-set (w .nodes) i _ ∙ d .count;
         at = getD-set-same (w .nodes) i _ noNode (omega (arith, d .count))
-            ∙ sym (rebuilt x _ _ true (sym (ap (λ (x : Node). x .action) (d .at))) (c ∙ sym (ap (λ (x : Node). x .children) (d .at))) o);
+            ∙ sym (rebuilt x _ _ true (sym (ap (λ (x : Node). actionIn x) (d .at))) (c ∙ sym (ap (λ (x : Node). x .children) (d .at))) o);
         away = λ j n. getD-set-other (w .nodes) i j _ noNode n ∙ d .away j n;
       }
 
-  dressed : (x : Node) → x .children ≡ 0 → validOf (x .action) ≡ true → Dressed u i x
+  dressed : (x : Node) → x .children ≡ 0 → validOf (actionIn x) ≡ true → Dressed u i x
   dressed x c v = go (x .optimized) refl
     where
       go : (o : Bool) → x .optimized ≡ o → Dressed u i x
@@ -79,7 +79,7 @@ record Painted (t : RuleTree) (n : ℕ) : Type 0 where
   ends : tree .ends ≡ t .ends
   full : length (tree .nodes) ≡ 513
   bare : (i : ℕ) → newestFirst t + n ≤ i → i < newestFirst t + 8
-      → nodeAt (tree .nodes) i ≡ leafWith (nodeAt (t .nodes) (newestParent t) .action)
+      → nodeAt (tree .nodes) i ≡ leafWith (actionIn (nodeAt (t .nodes) (newestParent t)))
   done : (i : ℕ) → i < 513 → (i < newestFirst t + n) ⊎ (newestFirst t + 8 ≤ i) → nodeAt (tree .nodes) i ≡ nodeAt (t .nodes) i
 
 module _ (t : RuleTree) (f : TreeFits t) (g : grownOf t ≡ true) (s : 0 < t .splits) where
@@ -151,12 +151,12 @@ module _ (t : RuleTree) (h : Sound t) (b : endsHold (t .ends) ≡ true) (e : t .
       (same-or-not (kids t 0) 0)
 
   abbrev fresh : RuleTree
-  fresh = freshTree (t .ends) (nodeAt (t .nodes) 0 .action)
+  fresh = freshTree (t .ends) (actionIn (nodeAt (t .nodes) 0))
 
   root-dressed : Dressed fresh 0 (nodeAt (t .nodes) 0)
   root-dressed =
       let v = h .held 0 (omega arith) in
-      dressed fresh (root (t .ends) (nodeAt (t .nodes) 0 .action) b v) 0 (omega arith) (omega arith) refl refl (nodeAt (t .nodes) 0) root-kids v
+      dressed fresh (root (t .ends) (actionIn (nodeAt (t .nodes) 0)) b v) 0 (omega arith) (omega arith) refl refl (nodeAt (t .nodes) 0) root-kids v
 
   rooted : Growth t
   rooted =

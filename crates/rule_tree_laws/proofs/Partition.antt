@@ -19,7 +19,7 @@ use Rattle.rule_tree.specs.declared.Node.{Node}
 use Rattle.rule_tree.specs.declared.RuleTree.{RuleTree}
 use Rattle.rule_tree.specs.declared.Looked.the-variants.{Found, Nothing}
 use Rattle.rule_tree.specs.declared.inner.walk.Reached.{Reached}
-use Rattle.rule_tree.specs.Nodes.{nodeAt, childrenOf, nodeCount, isLeaf}
+use Rattle.rule_tree.specs.Nodes.{nodeAt, childrenOf, nodeCount, isLeaf, actionIn}
 use Rattle.rule_tree.specs.Grown.{linkedOf, grownOf}
 use Rattle.rule_tree.specs.Cubes.{cubeOf}
 use Rattle.rule_tree.specs.Walk.{walkOf, leafOf}
@@ -147,7 +147,7 @@ leaf-link nodes i e = children-at nodes i ∙ eqb-true (nodeAt nodes i .children
 link-leaf : (nodes : List Node) (i : ℕ) → getD (childrenOf nodes) i 0 ≡ 0 → isLeaf nodes i ≡ true
 link-leaf nodes i e = eq-eqb (nodeAt nodes i .children) 0 (sym (children-at nodes i) ∙ e)
 
-found-inside : (t : RuleTree) (p : Point) → containsOf (rootOf (t .ends)) p ≡ true → foundIn t p ≡ Found (nodeAt (t .nodes) (leafOf t p) .action)
+found-inside : (t : RuleTree) (p : Point) → containsOf (rootOf (t .ends)) p ≡ true → foundIn t p ≡ Found (actionIn (nodeAt (t .nodes) (leafOf t p)))
 unfolding foundIn
 found-inside t p e = rw e
 
@@ -193,7 +193,7 @@ module _ (t : RuleTree) (g : grownOf t ≡ true) (n : length (t .nodes) ≡ 513)
   pub grown-none : containsOf (rootOf (t .ends)) p ≡ false → InNone t p
   grown-none e = in-none t p (grown-linked t g) n (grown-whole t g f) e
 
-  pub lookup-found : containsOf (rootOf (t .ends)) p ≡ true → lookupOf t p ≡ Found (nodeAt (t .nodes) (leafOf t p) .action)
+  pub lookup-found : containsOf (rootOf (t .ends)) p ≡ true → lookupOf t p ≡ Found (actionIn (nodeAt (t .nodes) (leafOf t p)))
   lookup-found e = looked-up t p g ∙ grown-one-leaf e .found
 
   pub lookup-nothing : containsOf (rootOf (t .ends)) p ≡ false → lookupOf t p ≡ Nothing

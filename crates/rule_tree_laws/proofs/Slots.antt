@@ -7,7 +7,7 @@ use native.Mathlib.Omega.{arith}
 use Rattle.remy.specs.Action.{validOf}
 use Rattle.rule_tree.specs.declared.Node.{Node}
 use Rattle.rule_tree.specs.declared.RuleTree.{RuleTree}
-use Rattle.rule_tree.specs.Nodes.{nodeAt, nodeCount}
+use Rattle.rule_tree.specs.Nodes.{nodeAt, nodeCount, actionIn}
 use Rattle.rule_tree.specs.Grown.{grownOf}
 use Rattle.rule_tree.proofs.LinkWays.{children-at}
 use Rattle.rule_tree.proofs.Owners.{same-or-not}
@@ -15,7 +15,7 @@ use Rattle.rule_tree.proofs.Links.{grown-splits, grown-valid, grown-link, grown
 
 -- a leaf with a valid action, or a parent whose children come after it and are in use
 pub data Slot (s i : ℕ) (x : Node) : Type 0 where
-  leaf : x .children ≡ 0 → validOf (x .action) ≡ true → Slot s i x
+  leaf : x .children ≡ 0 → validOf (actionIn x) ≡ true → Slot s i x
   parent : i < x .children → x .children + 7 < nodeCount s → Slot s i x
 
 pub grown-slot : (t : RuleTree) → grownOf t ≡ true → (i : ℕ) → i < nodeCount (t .splits) → Slot (t .splits) i (nodeAt (t .nodes) i)

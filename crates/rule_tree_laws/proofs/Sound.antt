@@ -9,7 +9,7 @@ use Rattle.remy.specs.Action.{validOf}
 use Rattle.remy.specs.Cube.{usualEnds}
 use Rattle.rule_tree.specs.declared.Node.{Node}
 use Rattle.rule_tree.specs.declared.RuleTree.{RuleTree}
-use Rattle.rule_tree.specs.Nodes.{nodeAt, nodeCount, noAction, blankNode}
+use Rattle.rule_tree.specs.Nodes.{nodeAt, nodeCount, noAction, blankNode, actionIn, nodeHolding}
 use Rattle.rule_tree.specs.Grown.{plainOf, grownOf}
 use Rattle.rule_tree.proofs.LinkWays.{children-at}
 use Rattle.rule_tree.proofs.Plain.{ActionFits, PointFits, plain-action, plain-unmarked}
@@ -23,7 +23,7 @@ kids t i = nodeAt (t .nodes) i .children
 pub record TreeFits (t : RuleTree) : Type 0 where
   pub full : length (t .nodes) ≡ 513
   pub ends : PointFits (t .ends)
-  pub actions : (i : ℕ) → i < 513 → ActionFits (nodeAt (t .nodes) i .action)
+  pub actions : (i : ℕ) → i < 513 → ActionFits (actionIn (nodeAt (t .nodes) i))
 
 pub record Owning (t : RuleTree) (k : ℕ) : Type 0 where
   pub at : ℕ
@@ -37,14 +37,14 @@ pub record Sound (t : RuleTree) : Type 0 where
   pub link : (i : ℕ) → i < 513 → (kids t i ≡ 0 → ⊥) → links.Link (t .splits) (kids t i) i
   pub owner : (k : ℕ) → k < t .splits → Owning t k
   pub only : (i j : ℕ) → i < 513 → j < 513 → (kids t i ≡ 0 → ⊥) → kids t j ≡ kids t i → j ≡ i
-  pub held : (i : ℕ) → i < nodeCount (t .splits) → validOf (nodeAt (t .nodes) i .action) ≡ true
+  pub held : (i : ℕ) → i < nodeCount (t .splits) → validOf (actionIn (nodeAt (t .nodes) i)) ≡ true
   pub unused : (i : ℕ) → nodeCount (t .splits) ≤ i → i < 513 → nodeAt (t .nodes) i ≡ blankNode
 
-pub rebuilt : (x : Node) (a : Action) (c : ℕ) (m : Bool) → x .action ≡ a → x .children ≡ c → x .optimized ≡ m
-    → x ≡ record { action = a; children = c; optimized = m }
-rebuilt x a c m p q r = λ j. record { action = p j; children = q j; optimized = r j }
+pub rebuilt : (x : Node) (a : Action) (c : ℕ) (m : Bool) → actionIn x ≡ a → x .children ≡ c → x .optimized ≡ m
+    → x ≡ nodeHolding a c m
+rebuilt x a c m p q r = λ j. nodeHolding (p j) (q j) (r j)
 
-plain-node : (x : Node) → ActionFits (x .action) → plainOf x ≡ true → x .children ≡ 0 → x ≡ blankNode
+plain-node : (x : Node) → ActionFits (actionIn x) → plainOf x ≡ true → x .children ≡ 0 → x ≡ blankNode
 plain-node x f h e = rebuilt x noAction 0 false (plain-action x h f) e (plain-unmarked x h)
 
 pub grown-sound : (t : RuleTree) → TreeFits t → grownOf t ≡ true → Sound t

@@ -15,7 +15,7 @@ use Rattle.remy.proofs.Partition.{place-below, place-holds}
 use Rattle.rule_tree.specs.declared.Node.{Node}
 use Rattle.rule_tree.specs.declared.RuleTree.{RuleTree}
 use Rattle.rule_tree.specs.declared.Looked.the-variants.{Found}
-use Rattle.rule_tree.specs.Nodes.{nodeAt, childrenOf, nodeCount}
+use Rattle.rule_tree.specs.Nodes.{nodeAt, childrenOf, nodeCount, actionIn}
 use Rattle.rule_tree.specs.Grown.{linkedOf, grownOf}
 use Rattle.rule_tree.specs.Cubes.{cubeOf}
 use Rattle.rule_tree.specs.Walk.{leafOf}
@@ -136,12 +136,12 @@ module _ (t : RuleTree) (i : ℕ) (n : length (t .nodes) ≡ 513) (g : linkedOf 
         ∙ ⊎-elim
         (λ (o : leafOf t p ≡ i).
         let k = placeOf (cubeOf t i) p in
-        ap (λ (j : ℕ). Found (nodeAt (splitAt t i .nodes) j .action)) (reach-split o)
-        ∙ ap (λ (x : Node). Found (x .action)) (split-child t i (omega arith) k (place-below (cubeOf t i) p))
-        ∙ ap (λ (j : ℕ). Found (nodeAt (t .nodes) j .action)) (sym o))
+        ap (λ (j : ℕ). Found (actionIn (nodeAt (splitAt t i .nodes) j))) (reach-split o)
+        ∙ ap (λ (x : Node). Found (actionIn x)) (split-child t i (omega arith) k (place-below (cubeOf t i) p))
+        ∙ ap (λ (j : ℕ). Found (actionIn (nodeAt (t .nodes) j))) (sym o))
         (λ (o : leafOf t p ≢ i).
-        ap (λ (j : ℕ). Found (nodeAt (splitAt t i .nodes) j .action)) (reach-other o)
-        ∙ ap (λ (x : Node). Found (x .action)) (split-other t i (leafOf t p) o (inl (reached .node))))
+        ap (λ (j : ℕ). Found (actionIn (nodeAt (splitAt t i .nodes) j))) (reach-other o)
+        ∙ ap (λ (x : Node). Found (actionIn x)) (split-other t i (leafOf t p) o (inl (reached .node))))
         (same-or-not (leafOf t p) i)
         ∙ sym (reached .found)
 

@@ -14,7 +14,7 @@ use lib.Ieee.{binary64, fits}
 use Rattle.remy.specs.Cube.{zero}
 use Rattle.rule_tree.specs.declared.Node.{Node}
 use Rattle.rule_tree.specs.declared.RuleTree.{RuleTree}
-use Rattle.rule_tree.specs.Nodes.{noNode, nodeAt, nodeCount, noAction, leafWith, linkedTo}
+use Rattle.rule_tree.specs.Nodes.{noNode, nodeAt, nodeCount, noAction, leafWith, linkedTo, actionIn}
 use Rattle.rule_tree.specs.Grown.{grownOf}
 use Rattle.rule_tree.specs.Change.{splitAt, newestParent, undone}
 use Rattle.rule_tree.specs.Calls.{leafIn, taken, splitOf, undoOf}
@@ -49,12 +49,12 @@ module _ (t : RuleTree) (f : TreeFits t) (g : grownOf t ≡ true) (s : 0 < t .sp
     actions = λ i l. go i l (place (newestFirst t) (newestParent t) i (newest-before t (f .full) g s));
   }
     where
-      go : (i : ℕ) → i < 513 → Place (newestFirst t) (newestParent t) i → ActionFits (nodeAt (undone t .nodes) i .action)
-      go i l (new a b) = subst (λ (x : Node). ActionFits (x .action)) (sym (undo-new t (f .full) g s i a b)) none-fits
+      go : (i : ℕ) → i < 513 → Place (newestFirst t) (newestParent t) i → ActionFits (actionIn (nodeAt (undone t .nodes) i))
+      go i l (new a b) = subst (λ (x : Node). ActionFits (actionIn x)) (sym (undo-new t (f .full) g s i a b)) none-fits
       go i l (here e) =
-          subst (λ (x : Node). ActionFits (x .action)) (sym (ap (nodeAt (undone t .nodes)) e ∙ undo-parent t (f .full) g s))
+          subst (λ (x : Node). ActionFits (actionIn x)) (sym (ap (nodeAt (undone t .nodes)) e ∙ undo-parent t (f .full) g s))
           (f .actions (newestParent t) (omega (arith, e)))
-      go i l (other m a) = subst (λ (x : Node). ActionFits (x .action)) (sym (undo-other t (f .full) g s i m a)) (f .actions i l)
+      go i l (other m a) = subst (λ (x : Node). ActionFits (actionIn x)) (sym (undo-other t (f .full) g s i m a)) (f .actions i l)
 
   pub undo-leaf : leafIn (undone t) (newestParent t) ≡ true
   undo-leaf =
@@ -84,12 +84,12 @@ module _ (t : RuleTree) (f : TreeFits t) (g : grownOf t ≡ true) (s : 0 < t .sp
 
   pub resplit-new :
       (i : ℕ) → newestFirst t ≤ i → i < newestFirst t + 8
-      → nodeAt (splitAt (undone t) (newestParent t) .nodes) i ≡ leafWith (nodeAt (t .nodes) (newestParent t) .action)
+      → nodeAt (splitAt (undone t) (newestParent t) .nodes) i ≡ leafWith (actionIn (nodeAt (t .nodes) (newestParent t)))
   resplit-new i a b =
       let e : 8 * undone t .splits + 1 + (i - newestFirst t) ≡ i = omega (arith, undo-splits t) in
       ap (nodeAt (splitAt (undone t) (newestParent t) .nodes)) (sym e)
       ∙ split-child (undone t) (newestParent t) (omega (arith, undo-splits t, undo-length t, f .full, grown-splits t g)) (i - newestFirst t) (omega arith)
-      ∙ ap (λ (x : Node). leafWith (x .action)) (undo-parent t (f .full) g s)
+      ∙ ap (λ (x : Node). leafWith (actionIn x)) (undo-parent t (f .full) g s)
 
 -- ---- "Split then take back must give the same tree, marks included"
 module _ (t : RuleTree) (i : ℕ) (f : TreeFits t) (g : grownOf t ≡ true) (l : leafIn t i ≡ true) (r : t .splits < 64) where

@@ -13,7 +13,7 @@ use Rattle.remy.specs.Cube.{containsOf, rootOf}
 use Rattle.rule_tree.specs.declared.Node.{Node}
 use Rattle.rule_tree.specs.declared.RuleTree.{RuleTree}
 use Rattle.rule_tree.specs.declared.Looked.the-variants.{Found}
-use Rattle.rule_tree.specs.Nodes.{nodeAt, childrenOf, nodeCount}
+use Rattle.rule_tree.specs.Nodes.{nodeAt, childrenOf, nodeCount, actionIn}
 use Rattle.rule_tree.specs.Grown.{grownOf}
 use Rattle.rule_tree.specs.Cubes.{splitNodes, cubeAt, cubeOf}
 use Rattle.rule_tree.specs.Walk.{walkOf, leafOf}
@@ -89,18 +89,18 @@ module _ (t : RuleTree) (f : TreeFits t) (g : grownOf t ≡ true) (s : 0 < t .sp
     one e = grown-one-leaf before grown (undo-fits t f g s .full) (undo-fits t f g s .ends) x e
 
     -- in the parent's cube
-    pub undo-inside : containsOf (cubeOf t (newestParent t)) x ≡ true → foundIn before x ≡ Found (nodeAt (t .nodes) (newestParent t) .action)
+    pub undo-inside : containsOf (cubeOf t (newestParent t)) x ≡ true → foundIn before x ≡ Found (actionIn (nodeAt (t .nodes) (newestParent t)))
     undo-inside h = go (containsOf (rootOf (before .ends)) x) refl
       where
         holds : containsOf (cubeOf before (newestParent t)) x ≡ true
         holds = ap (λ (c : Cube). containsOf c x) (undo-cube (newestParent t) in-use) ∙ h
 
-        go : (b : Bool) → containsOf (rootOf (before .ends)) x ≡ b → foundIn before x ≡ Found (nodeAt (t .nodes) (newestParent t) .action)
+        go : (b : Bool) → containsOf (rootOf (before .ends)) x ≡ b → foundIn before x ≡ Found (actionIn (nodeAt (t .nodes) (newestParent t)))
         go true e =
             one e .found
-            ∙ ap (λ (j : ℕ). Found (nodeAt (before .nodes) j .action))
+            ∙ ap (λ (j : ℕ). Found (actionIn (nodeAt (before .nodes) j)))
             (sym (one e .only (newestParent t) in-use (eq-eqb _ 0 (leaf-childless before (newestParent t) (undo-leaf t f g s))) holds))
-            ∙ ap (λ (y : Node). Found (y .action)) (undo-parent t (f .full) g s)
+            ∙ ap (λ (y : Node). Found (actionIn y)) (undo-parent t (f .full) g s)
         go false e =
             absurd (clash _ holds
             (grown-none before grown (undo-fits t f g s .full) (undo-fits t f g s .ends) x e .none (newestParent t) in-use))
@@ -120,8 +120,8 @@ module _ (t : RuleTree) (f : TreeFits t) (g : grownOf t ≡ true) (s : 0 < t .sp
             let r = reach-other before (newestParent t) (undo-fits t f g s .full) (grown-linked before grown) (undo-leaf t f g s) room w x e (aside e) in
             let b = one e .node in
             one e .found
-            ∙ ap (λ (y : Node). Found (y .action)) (undo-other t (f .full) g s (leafOf before x) (aside e) (inl (omega (arith, undo-splits t))))
-            ∙ ap (λ (j : ℕ). Found (nodeAt (t .nodes) j .action)) (sym r ∙ again-leaf x)
+            ∙ ap (λ (y : Node). Found (actionIn y)) (undo-other t (f .full) g s (leafOf before x) (aside e) (inl (omega (arith, undo-splits t))))
+            ∙ ap (λ (j : ℕ). Found (actionIn (nodeAt (t .nodes) j))) (sym r ∙ again-leaf x)
             ∙ sym (grown-one-leaf t g (f .full) (f .ends) x (ap (λ (p : Point). containsOf (rootOf p) x) (sym (undo-ends t)) ∙ e) .found)
         go false e =
             grown-none before grown (undo-fits t f g s .full) (undo-fits t f g s .ends) x e .nothing

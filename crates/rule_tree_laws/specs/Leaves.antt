@@ -6,7 +6,7 @@ use Rattle.remy.specs.declared.point.Point.{Point}
 use Rattle.remy.specs.Cube.{containsOf}
 use Rattle.rule_tree.specs.declared.RuleTree.{RuleTree}
 use Rattle.rule_tree.specs.declared.Looked.the-variants.{Found, Nothing}
-use Rattle.rule_tree.specs.Nodes.{nodeAt, nodeCount, isLeaf}
+use Rattle.rule_tree.specs.Nodes.{nodeAt, nodeCount, isLeaf, actionIn}
 use Rattle.rule_tree.specs.Cubes.{cubeOf}
 use Rattle.rule_tree.specs.Walk.{leafOf}
 use Rattle.rule_tree.specs.Calls.{foundIn}
@@ -17,7 +17,7 @@ pub record InOneLeaf (t : RuleTree) (p : Point) : Type 0 where
   pub leaf : isLeaf (t .nodes) (leafOf t p) ≡ true
   pub inside : containsOf (cubeOf t (leafOf t p)) p ≡ true
   pub only : (j : ℕ) → j < nodeCount (t .splits) → isLeaf (t .nodes) j ≡ true → containsOf (cubeOf t j) p ≡ true → j ≡ leafOf t p
-  pub found : foundIn t p ≡ Found (nodeAt (t .nodes) (leafOf t p) .action)
+  pub found : foundIn t p ≡ Found (actionIn (nodeAt (t .nodes) (leafOf t p)))
 
 -- any other point lies in no node's cube and finds nothing
 pub record InNone (t : RuleTree) (p : Point) : Type 0 where

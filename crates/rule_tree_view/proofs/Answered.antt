@@ -17,7 +17,7 @@ use Rattle.rule_tree.specs.declared.RuleTree.{RuleTree}
 use Rattle.rule_tree.specs.declared.Looked.{Looked}
 use Rattle.rule_tree.specs.declared.Looked.the-variants as looked
 use Rattle.rule_tree.specs.declared.inner.walk.Reached.{Reached}
-use Rattle.rule_tree.specs.Nodes.{noNode, nodeAt, isLeaf, blankNode, childrenOf, nodeCount}
+use Rattle.rule_tree.specs.Nodes.{noNode, nodeAt, isLeaf, blankNode, childrenOf, nodeCount, actionIn}
 use Rattle.rule_tree.specs.Grown.{linkedOf, grownOf}
 use Rattle.rule_tree.specs.Walk.{walkOf}
 use Rattle.rule_tree.specs.Change.{withAction}
@@ -82,7 +82,7 @@ module _ (t : RuleTree) (nodes : List Node) (u : Uses t nodes) (leaf : ℕ) (a :
     found-other q =
         let b : walked .node < length nodes = omega (arith, reached-leaf .node, u .long) in
         ap read (sym (reached-other cs leaf a p root usual inside walked refl q))
-        ∙ ap (λ (x : Node). looked.Found (x .action)) (any-default nodes (walked .node) blankNode noNode b ∙ sym (u .same (walked .node) b))
+        ∙ ap (λ (x : Node). looked.Found (actionIn x)) (any-default nodes (walked .node) blankNode noNode b ∙ sym (u .same (walked .node) b))
         ∙ replaced-other t leaf a p walked i refl q
 
   found-nothing : containsOf root p ≡ false → read (reachedOf cs leaf a p) ≡ foundIn (withAction t leaf a) p

@@ -11,7 +11,7 @@ use lib.ListN.{length, getD, set, take, drop, length-map, length-replicate, repl
 use Rattle.remy.specs.Action.{validOf}
 use Rattle.rule_tree.specs.declared.Node.{Node}
 use Rattle.rule_tree.specs.Lists.{countBelow}
-use Rattle.rule_tree.specs.Nodes.{blankNode}
+use Rattle.rule_tree.specs.Nodes.{blankNode, actionIn}
 use Rattle.rule_tree.proofs.Lists.{countBelow-yes, countBelow-no}
 use Rattle.rule_tree_view.specs.View.{linkOf, linksOf, countOf, leafAmong}
 
@@ -59,11 +59,11 @@ count-fits n = go (leb n 513) refl
     go false e = (omega arith, omega arith)
 
 -- ---- one node's link
-pub link-valid : (x : Node) (b : Bool) → b ≡ validOf (x .action) → b ≡ true → x .children ≡ linkOf x
+pub link-valid : (x : Node) (b : Bool) → b ≡ validOf (actionIn x) → b ≡ true → x .children ≡ linkOf x
 unfolding linkOf
 link-valid x b e h = rw (← e, h)
 
-pub link-invalid : (x : Node) (b : Bool) → b ≡ validOf (x .action) → b ≡ false → 65535 ≡ linkOf x
+pub link-invalid : (x : Node) (b : Bool) → b ≡ validOf (actionIn x) → b ≡ false → 65535 ≡ linkOf x
 unfolding linkOf
 link-invalid x b e h = rw (← e, h)
 

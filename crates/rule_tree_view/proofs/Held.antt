@@ -13,7 +13,7 @@ use Rattle.remy.specs.Action.{validOf}
 use Rattle.remy.specs.Cube.{usualEnds}
 use Rattle.rule_tree.specs.declared.Node.{Node}
 use Rattle.rule_tree.specs.declared.RuleTree.{RuleTree}
-use Rattle.rule_tree.specs.Nodes.{nodeAt, blankNode, childrenOf, nodeCount}
+use Rattle.rule_tree.specs.Nodes.{nodeAt, blankNode, childrenOf, nodeCount, actionIn}
 use Rattle.rule_tree.specs.Grown.{linkedOf, plainOf, slotHolds, payloadsHold, endsHold, grownOf}
 use Rattle.rule_tree.proofs.Lists.{allBelow-all}
 use Rattle.rule_tree.proofs.LinkWays.{grown-rest}
@@ -57,13 +57,13 @@ module _ (nodes : List Node) where
   pub counted : n ≤ 513 → linksOf nodes n ≡ gathered
   counted l = ap (linksOf nodes) (count-in n l)
 
-  payloads : n ≡ nodeCount (parentsIn nodes) → ((i : ℕ) → i < n → validOf (nodeAt nodes i .action) ≡ true)
+  payloads : n ≡ nodeCount (parentsIn nodes) → ((i : ℕ) → i < n → validOf (actionIn (nodeAt nodes i)) ≡ true)
       → payloadsHold (t .nodes) (parentsIn nodes) ≡ true
   payloads e v =
       allBelow-all 513 (λ i. slotHolds (nodeAt (t .nodes) i) (ltb i (nodeCount (parentsIn nodes))))
       (λ i m. ⊎-elim
       (λ (l : i < n).
-      slot-used (nodeAt (t .nodes) i) _ (lt-ltb i _ (omega (arith, e))) ∙ ap (λ (x : Node). validOf (x .action)) (lent.lent-used nodes i l) ∙ v i l)
+      slot-used (nodeAt (t .nodes) i) _ (lt-ltb i _ (omega (arith, e))) ∙ ap (λ (x : Node). validOf (actionIn x)) (lent.lent-used nodes i l) ∙ v i l)
       (λ (l : n ≤ i).
       slot-unused (nodeAt (t .nodes) i) _ (le-ltb i _ (omega (arith, e))) ∙ ap plainOf (lent.lent-blank nodes i l m) ∙ blank-plain)
       (below-or-not i n))
@@ -96,7 +96,7 @@ module _ (nodes : List Node) where
         few = few;
         grown = g;
         links = sym (counted few)
-            ∙ lent.links-all nodes few (λ i l. ap (λ (x : Node). validOf (x .action)) (sym (lent.lent-used nodes i l)) ∙ grown-valid t g i (omega (arith, e)));
+            ∙ lent.links-all nodes few (λ i l. ap (λ (x : Node). validOf (actionIn x)) (sym (lent.lent-used nodes i l)) ∙ grown-valid t g i (omega (arith, e)));
       }
 
   pub held-tested : Held → tested ≡ true

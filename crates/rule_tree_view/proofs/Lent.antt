@@ -13,7 +13,7 @@ use Rattle.remy.specs.Action.{validOf}
 use Rattle.rule_tree.specs.declared.Node.{Node}
 use Rattle.rule_tree.specs.declared.RuleTree.{RuleTree}
 use Rattle.rule_tree.specs.Lists.{countBelow}
-use Rattle.rule_tree.specs.Nodes.{noNode, nodeAt, isLeaf, blankNode, childrenOf}
+use Rattle.rule_tree.specs.Nodes.{noNode, nodeAt, isLeaf, blankNode, childrenOf, actionIn}
 use Rattle.rule_tree.specs.Grown.{linkHolds, linkedOf}
 use Rattle.rule_tree.proofs.Lists.{allBelow-at}
 use Rattle.rule_tree.proofs.LinkWays.{children-at, children-count}
@@ -89,7 +89,7 @@ module _ (nodes : List Node) where
         ∙ getD-drop n (replicate 513 0) (i - n) 0
         ∙ getD-replicate 513 (n + (i - n)) 0 0 (omega arith))
 
-    pub links-all : ((i : ℕ) → i < n → validOf (nodeAt nodes i .action) ≡ true) → linksOf nodes n ≡ childrenOf (t .nodes)
+    pub links-all : ((i : ℕ) → i < n → validOf (actionIn (nodeAt nodes i)) ≡ true) → linksOf nodes n ≡ childrenOf (t .nodes)
     links-all v =
         ext-getD 0 (linksOf nodes n) (childrenOf (t .nodes)) (links-full ∙ sym (children-count (t .nodes) ∙ lent-full few))
         (λ i b. ⊎-elim
@@ -102,10 +102,10 @@ module _ (nodes : List Node) where
         (below-or-not i n))
 
     -- no tested link is that of an action that is not valid
-    pub links-valid : (s : ℕ) → linkedOf (linksOf nodes n) s ≡ true → (i : ℕ) → i < n → validOf (nodeAt nodes i .action) ≡ true
-    links-valid s h i l = go (validOf (nodeAt nodes i .action)) refl
+    pub links-valid : (s : ℕ) → linkedOf (linksOf nodes n) s ≡ true → (i : ℕ) → i < n → validOf (actionIn (nodeAt nodes i)) ≡ true
+    links-valid s h i l = go (validOf (actionIn (nodeAt nodes i))) refl
       where
-        go : (b : Bool) → validOf (nodeAt nodes i .action) ≡ b → b ≡ true
+        go : (b : Bool) → validOf (actionIn (nodeAt nodes i)) ≡ b → b ≡ true
         go true e = refl
         go false e =
             let c : getD (linksOf nodes n) i 0 ≡ 65535 = links-at i l ∙ sym (link-invalid (nodeAt nodes i) false (sym e) refl) in

@@ -17,7 +17,7 @@ use Rattle.rule_tree.specs.declared.Node.{Node}
 use Rattle.rule_tree.specs.declared.RuleTree.{RuleTree}
 use Rattle.rule_tree.specs.declared.Looked.{Looked}
 use Rattle.rule_tree.specs.declared.Looked.the-variants as looked
-use Rattle.rule_tree.specs.Nodes.{noNode, nodeAt, blankNode, childrenOf, nodeCount}
+use Rattle.rule_tree.specs.Nodes.{noNode, nodeAt, blankNode, childrenOf, nodeCount, actionIn}
 use Rattle.rule_tree.specs.Grown.{grownOf}
 use Rattle.rule_tree.specs.Calls.{replacedOf}
 use Rattle.rule_tree.proofs.LinkWays.{children-at, children-count}
@@ -97,7 +97,7 @@ module _ (t : RuleTree) (full : length (t .nodes) ≡ 513) (g : grownOf t ≡ tr
   links-gathered : held.gathered used ≡ childrenOf (t .nodes)
   links-gathered =
       sym (held.counted used few)
-      ∙ lent.links-all used few (λ i l. ap (λ (x : Node). validOf (x .action)) (sym (same i l)) ∙ grown-valid t g i (omega (arith, l, long)))
+      ∙ lent.links-all used few (λ i l. ap (λ (x : Node). validOf (actionIn x)) (sym (same i l)) ∙ grown-valid t g i (omega (arith, l, long)))
       ∙ links-same
 
   pub view-grown : (leaf : ℕ) (a : Action) (p : Point) → viewOf used leaf a p ≡ replacedIn t leaf a p

@@ -16,7 +16,7 @@ use Rattle.rule_tree.specs.declared.RuleTree.{RuleTree}
 use Rattle.rule_tree.specs.declared.Looked.{Looked}
 use Rattle.rule_tree.specs.declared.Looked.the-variants as looked
 use Rattle.rule_tree.specs.Lists.{countBelow}
-use Rattle.rule_tree.specs.Nodes.{isLeaf, blankNode, nodeCount}
+use Rattle.rule_tree.specs.Nodes.{isLeaf, blankNode, nodeCount, actionIn}
 use Rattle.rule_tree.specs.Grown.{linkedOf}
 use Rattle.rule_tree.specs.Walk.{walkOf}
 use Rattle.rule_tree.specs.Calls.{replacedOf}
@@ -51,7 +51,7 @@ viewOf nodes leaf a p =
 -- ---- what the private functions of the code are held to
 -- a node's link: its first child, and where its action is not valid, what is no node's first child
 unfoldable pub linkOf : Node → ℕ
-linkOf x = cond (validOf (x .action)) (x .children) 65535
+linkOf x = cond (validOf (actionIn x)) (x .children) 65535
 
 -- the links of the first n nodes, and none after them
 unfoldable pub linksOf : List Node → ℕ → List ℕ
@@ -90,5 +90,5 @@ placeOf (At i) = i
 placeOf (Known r) = 0
 
 unfoldable pub answerOf : Told → Node → Looked
-answerOf (At i) x = looked.Found (x .action)
+answerOf (At i) x = looked.Found (actionIn x)
 answerOf (Known r) x = r

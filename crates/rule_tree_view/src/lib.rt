@@ -29,11 +29,7 @@ fn blank() -> Node
     ensures { λ r. ⌜ r ≡ blankNode ⌝ }
 {
     let none = Action::new(0.0, 0, 0.0);
-    Node {
-        action: none,
-        children: 0,
-        optimized: false,
-    }
+    Node::new(none, 0, false)
 }
 
 // Node i of a slice, a blank one past its end.
@@ -50,7 +46,7 @@ fn node_at(nodes: &[Node], i: usize) -> Node
 fn link_of(x: Node) -> u16
     ensures { λ r. ⌜ r ≡ linkOf x ⌝ }
 {
-    let a = x.action;
+    let a = x.action();
     if a.valid() {
         return x.children;
     }
@@ -170,7 +166,7 @@ fn answer_of(told: Told, x: Node) -> Looked
 {
     match told {
         Told::At(_) => {
-            let a = x.action;
+            let a = x.action();
             Looked::Found(a)
         }
         Told::Known(r) => r,

@@ -90,7 +90,7 @@ abbrev slice : Ty
 slice = sliceTy (tyRef erased imm (pointee (N.the-row .written)))
 
 room : (k : ℕ) → k ≤ 513 → Room N.the-row k
-room k few = let a : k < 2 ^ 64 = omega arith in let b : k * 32 < 2 ^ 63 = omega arith in (a, b)
+room k few = let a : k < 2 ^ 64 = omega arith in let b : k * 24 < 2 ^ 63 = omega arith in (a, b)
 
 abbrev Arg : Type 0
 Arg = List Node × (ℕ × (ℕ × (Action × (Point × Unit {0}))))

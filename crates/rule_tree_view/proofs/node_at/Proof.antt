@@ -1,4 +1,4 @@
--- `node_at` meets its contract: a walk of its MIR, by hand. The place of `nodes[i]` is i * 32 past the slice's pointer; the node is read there whole.
+-- `node_at` meets its contract: a walk of its MIR, by hand. The place of `nodes[i]` is i * 24 past the slice's pointer; the node is read there whole.
 -- All that the proof knows of `blank` is that it meets its contract. Assumes nothing.
 use mathlib.Core.Path.{_≡_, refl, sym, _∙_}
 use Prim.Native.Nat.{ℕ, _<_, _^_}
@@ -118,10 +118,10 @@ module _ {M : Type 1} (𝓤 : URA M) (H : Heap 𝓤) (A : Atoms 𝓤) (W : Given
         assigns ! (bin ! (load ! (from ! (stop !)) (look ! 10 refl)) (load ! (from ! (stop !)) (look ! 8 refl)) tt) (from ! (stop !)) (init ! 6 refl (tt, tt)) $
         first ! $ branches ! (load ! (from ! (stop !)) (look ! 6 refl))
         (λ h. let l = ltb→lt i (length ys) h in
-        -- _5 = i * 32; _6 = the pointer, i * 32 on
-        assigns ! (bin ! (load ! (from ! (stop !)) (look ! 10 refl)) (lit ! tt) (scaled-fits i (length ys) 32 l (gn .1))) (from ! (stop !)) (init ! 4 refl (tt, scaled-fits i (length ys) 32 l (gn .1))) $
+        -- _5 = i * 24; _6 = the pointer, i * 24 on
+        assigns ! (bin ! (load ! (from ! (stop !)) (look ! 10 refl)) (lit ! tt) (scaled-fits i (length ys) 24 l (gn .1))) (from ! (stop !)) (init ! 4 refl (tt, scaled-fits i (length ys) 24 l (gn .1))) $
         assigns ! (bin ! (load ! (from ! (fld ! refl (stop !))) (look-in ! 12 (sub ! 0 refl (whole !)))) (load ! (from ! (stop !)) (look ! 4 refl)) tt) (from ! (stop !)) (init ! 2 refl (tt, tt)) $
-        rewrite ! 2 (λ (p : ℕ). ‵ (fat fullShare tyPtr l₆ 0 (vptr b p))) (sym (place-is 32 o i)) refl $
+        rewrite ! 2 (λ (p : ℕ). ‵ (fat fullShare tyPtr l₆ 0 (vptr b p))) (sym (place-is 24 o i)) refl $
         move ! (17 ∷ []) $ fsplit ! $ fsplit ! $ move ! (1 ∷ []) $ fsplit ! $ move ! (20 ∷ []) $ split ! $ move ! (3 ∷ 0 ∷ []) $
         looks-slice ! tt N.the-row (Is N.the-row) (shows 𝓤 H A N.the-row) (LL.vals N.the-type N′.the-laws) (LL.tells N.the-type N′.the-laws) (LL.copy N.the-type N′.the-copy 𝓤 H A W) ys b o (λ q′.
         elem-out ! N.the-row (Is N.the-row) (shows 𝓤 H A N.the-row) (LL.vals N.the-type N′.the-laws) (LL.tells N.the-type N′.the-laws) q′ ys i blankNode b o l (λ g.
