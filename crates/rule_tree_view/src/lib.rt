@@ -28,8 +28,7 @@ enum Told {
 fn blank() -> Node
     ensures { λ r. ⌜ r ≡ blankNode ⌝ }
 {
-    let none = Action::new(0.0, 0, 0.0);
-    Node::new(none, 0, false)
+    rule_tree::inner::change::blank_node()
 }
 
 // Node i of a slice, a blank one past its end.

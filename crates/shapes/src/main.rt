@@ -213,11 +213,7 @@ fn mark_eight(start: RuleTree) -> RuleTree {
 
 // The tree with another node in one place.
 fn with_node(t: RuleTree, i: usize, action: Action, children: u16, optimized: bool) -> RuleTree {
-    let x = Node {
-        action,
-        children,
-        optimized,
-    };
+    let x = Node::new(action, children, optimized);
     let mut out = t;
     if i < 513 {
         out.nodes[i] = x;
@@ -486,7 +482,7 @@ fn third(t: RuleTree) {
     } else {
         say(b", unmarked");
     }
-    let i = x.action.window_increment;
+    let i = x.window_increment;
     if i == 9 {
         say(b", action 9\n");
     } else {

@@ -19,7 +19,7 @@ use Rattle.rule_tree.specs.declared.RuleTree.{RuleTree}
 use Rattle.rule_tree.specs.declared.Chosen.{Chosen}
 use Rattle.rule_tree.specs.declared.Chosen.the-variants.{Leaf, Nobody, Refused}
 use Rattle.rule_tree.specs.Lists.{total}
-use Rattle.rule_tree.specs.Nodes.{noAction}
+use Rattle.rule_tree.specs.Nodes.{noAction, actionIn}
 use Rattle.rule_tree.specs.Counts.{cappedTotal, countsHold, usedIn}
 use Rattle.rule_tree.specs.Change.{freshTree, withAction}
 use Rattle.rule_tree.specs.Grown.{grownOf}
@@ -255,7 +255,7 @@ module _ (t : Trainer) where
       pub adopted-valid : Scoring t → Kept t kept → (kept ≡ none → ⊥) → validOf (actionAt tree (t .leaf)) ≡ true
       adopted-valid s k n =
           ap (λ (x : RuleTree). validOf (actionAt x (t .leaf))) et
-          ∙ ap (λ (x : Node). validOf (x .action)) (action-at (t .tree) (t .leaf) c (leaf-whole t s))
+          ∙ ap (λ (x : Node). validOf (actionIn x)) (action-at (t .tree) (t .leaf) c (leaf-whole t s))
           ∙ ap validOf chosen-is
           ∙ candidate-valid (t .settings) (leafAction t) kept noCandidate (s .settings) (kept-some kept k n)
 

@@ -11,7 +11,7 @@ use lib.Ieee.{Float, binary64, div, ofInt, le, lt}
 use Rattle.remy.specs.declared.action.Action.{Action}
 use Rattle.remy.specs.Cube as cube
 use Rattle.rule_tree.specs.declared.RuleTree.{RuleTree}
-use Rattle.rule_tree.specs.Nodes.{nodeAt}
+use Rattle.rule_tree.specs.Nodes.{nodeAt, actionIn}
 use Rattle.rule_tree.specs.Change.{withMark}
 use Rattle.rule_tree.specs.Counts.{countsHold}
 use Rattle.rule_tree.specs.Grown.{grownOf}
@@ -40,7 +40,7 @@ leafHoldsIn t i = leafIn t i && not (nodeAt (t .nodes) i .optimized)
 
 -- ---- the steps
 abbrev pub actionAt : RuleTree → ℕ → Action
-actionAt t i = nodeAt (t .nodes) i .action
+actionAt t i = actionIn (nodeAt (t .nodes) i)
 
 abbrev pub progressIn : ℕ → ℕ → Float
 progressIn stage splits = div binary64 (ofInt binary64 (pos stage)) (ofInt binary64 (pos (splits + 1)))

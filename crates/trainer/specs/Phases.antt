@@ -11,7 +11,7 @@ use Rattle.rule_tree.specs.declared.RuleTree.{RuleTree}
 use Rattle.rule_tree.specs.declared.Chosen.{Chosen}
 use Rattle.rule_tree.specs.declared.Chosen.the-variants.{Leaf, Nobody, Refused}
 use Rattle.rule_tree.specs.Lists.{total}
-use Rattle.rule_tree.specs.Nodes.{nodeAt}
+use Rattle.rule_tree.specs.Nodes.{nodeAt, actionIn}
 use Rattle.rule_tree.specs.Counts.{usedIn, mostUsed}
 use Rattle.rule_tree.specs.Change.{withAction, withMark, withoutMarks, splitAt}
 use Rattle.trainer.specs.declared.settings.Settings.{Settings}
@@ -91,7 +91,7 @@ marked t tree = stand (t .settings) (withMark tree (t .leaf)) 3 (t .stage) (t .r
 -- "Phase 5 from k = 0; no candidates: mark, phase 3"
 unfoldable pub tryFrom : Trainer → RuleTree → Float → Trainer
 tryFrom t tree best =
-    cond (eqb (length (candidatesOf (t .settings) (nodeAt (tree .nodes) (t .leaf) .action))) 0) (marked t tree)
+    cond (eqb (length (candidatesOf (t .settings) (actionIn (nodeAt (tree .nodes) (t .leaf))))) 0) (marked t tree)
     (trying (t .settings) tree (t .stage) (t .round) (t .leaf) best 0 none cube.zero)
 
 -- "4, score: of that leaf's own action; it is best"

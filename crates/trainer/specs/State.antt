@@ -7,7 +7,7 @@ use lib.Ieee.{Float, binary64, toBits, lt}
 use Rattle.remy.specs.declared.action.Action.{Action}
 use Rattle.remy.specs.Cube as cube
 use Rattle.rule_tree.specs.declared.RuleTree.{RuleTree}
-use Rattle.rule_tree.specs.Nodes.{nodeAt}
+use Rattle.rule_tree.specs.Nodes.{nodeAt, actionIn}
 use Rattle.rule_tree.specs.Grown.{grownOf}
 use Rattle.rule_tree.specs.Calls.{leafIn}
 use Rattle.trainer.specs.declared.settings.Settings.{Settings}
@@ -82,7 +82,7 @@ idle t = eqb (t .leaf) 0 && untried t
 
 -- the action of the trainer's leaf, and its candidates
 abbrev pub leafAction : Trainer → Action
-leafAction t = nodeAt (t .tree .nodes) (t .leaf) .action
+leafAction t = actionIn (nodeAt (t .tree .nodes) (t .leaf))
 
 -- "in 4, 5 an unmarked leaf"
 unfoldable pub leafHolds : Trainer → Bool

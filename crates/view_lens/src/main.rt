@@ -104,11 +104,7 @@ fn refusals(tree: RuleTree, action: Action) {
 // What the last node that is lent holds, and the first that is not.
 fn payloads(nodes: [Node; 513], action: Action) {
     let bad = Action::new(0.0 / 0.0, 0, 0.0);
-    let none = Node {
-        action: bad,
-        children: 0,
-        optimized: false,
-    };
+    let none = Node::new(bad, 0, false);
     let mut wrong = nodes;
     wrong[8] = none;
     say(b"the last node's action is none: ");

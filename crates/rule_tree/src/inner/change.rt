@@ -33,7 +33,7 @@ pub fn is_leaf(t: RuleTree, i: u16) -> bool
 }
 
 // A slot that is not in use.
-fn blank_node() -> Node
+pub fn blank_node() -> Node
     ensures { λ r. ⌜ r ≡ blankNode ⌝ }
 {
     let none = Action::new(0.0, 0, 0.0);

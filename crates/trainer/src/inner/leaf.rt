@@ -31,7 +31,7 @@ pub fn action_at(t: RuleTree, leaf: u16) -> Action
 {
     let at = leaf as usize;
     let x = t.nodes[at];
-    x.action
+    x.action()
 }
 
 // Candidate k of the list.
