@@ -11,7 +11,7 @@ use mir.Syntax.{w32}
 use mir.ValLaws.{toZ-fits}
 use Rattle.remy.specs.Cube as cube
 use Rattle.rule_tree.specs.declared.Node.{Node}
-use Rattle.rule_tree.specs.Nodes.{noNode, noAction, blankNode, nodeCount}
+use Rattle.rule_tree.specs.Nodes.{noNode, noAction, blankNode, nodeCount, nodeHolding, actionIn}
 use Rattle.rule_tree.proofs.Plain.{ActionFits, PointFits}
 use Rattle.rule_tree.proofs.Lists.{length-tabulate, getD-tabulate}
 use Rattle.trainer.specs.declared.Trainer.{Trainer}
@@ -66,18 +66,18 @@ ends-fit = record { acks = tt; sends = tt; ratios = tt }
 given-fits : (bytes : List ℕ) → Bytes bytes → ActionFits (givenAction (settingsAt bytes 5))
 given-fits bytes h = settings-fits bytes 5 h .default
 
-place-fits : (lay : Layout) (bytes : List ℕ) (s i : ℕ) → Bytes bytes → ActionFits (nodeAtPlace lay (givenAction (settingsAt bytes 5)) bytes s i .action)
+place-fits : (lay : Layout) (bytes : List ℕ) (s i : ℕ) → Bytes bytes → ActionFits (actionIn (nodeAtPlace lay (givenAction (settingsAt bytes 5)) bytes s i))
 unfolding nodeAtPlace
 place-fits lay bytes s i h = go (ltb i (nodeCount s)) (carriedAt lay bytes s i)
   where
     go : (b c : Bool)
         → ActionFits
+        (actionIn
         (cond b
         (cond c
-        (record { action = actionAt bytes (payloadPlace lay bytes s i); children = linkOf bytes (listPlace lay) s i; optimized = flagAt bytes (payloadPlace lay bytes s i + 20) })
-        (record { action = givenAction (settingsAt bytes 5); children = linkOf bytes (listPlace lay) s i; optimized = false }))
-        blankNode
-        .action)
+        (nodeHolding (actionAt bytes (payloadPlace lay bytes s i)) (linkOf bytes (listPlace lay) s i) (flagAt bytes (payloadPlace lay bytes s i + 20)))
+        (nodeHolding (givenAction (settingsAt bytes 5)) (linkOf bytes (listPlace lay) s i) false))
+        blankNode))
     go true true = action-fits bytes (payloadPlace lay bytes s i) h
     go true false = given-fits bytes h
     go false c = plain-fits
@@ -107,7 +107,7 @@ read-fits lay bytes h =
             full = length-tabulate 513 node;
             ends = ends-read-fit lay bytes 118;
             actions = λ i l.
-                subst (λ (x : Node). ActionFits (x .action)) (sym (getD-tabulate 513 i node noNode l)) (place-fits lay bytes s i h);
+                subst (λ (x : Node). ActionFits (actionIn x)) (sym (getD-tabulate 513 i node noNode l)) (place-fits lay bytes s i h);
           };
       stage = number-below bytes (at + 1) 4 h;
       round = number-below bytes (at + 5) 4 h;

@@ -12,7 +12,7 @@ use Rattle.remy.specs.declared.action.Action.{Action}
 use Rattle.remy.specs.Action.{validOf}
 use Rattle.rule_tree.specs.declared.Node.{Node}
 use Rattle.rule_tree.specs.Lists.{tabulate}
-use Rattle.rule_tree.specs.Nodes.{nodeAt, nodeCount, blankNode}
+use Rattle.rule_tree.specs.Nodes.{nodeAt, nodeCount, blankNode, actionIn}
 use Rattle.rule_tree.specs.Grown.{plainOf, slotHolds, endsHold, grownOf}
 use Rattle.rule_tree.proofs.Lists.{allBelow-at, allBelow-all}
 use Rattle.rule_tree.proofs.LinkWays.{slot-used, slot-unused, grown-rest}
@@ -56,15 +56,15 @@ module _ (lay : Layout) (a : Action) (bytes : List ℕ) (s : ℕ) (few : s ≤ 6
   node-flag at h = and-r (validOf (actionAt bytes at)) _ h
 
   module _ (h : splitsAccepted lay bytes s ≡ true) (n : nodesAccepted lay bytes s ≡ true) (v : validOf a ≡ true) where
-    used-valid : (i : ℕ) → i < nodeCount s → validOf (nodeAt nodes i .action) ≡ true
+    used-valid : (i : ℕ) → i < nodeCount s → validOf (actionIn (nodeAt nodes i)) ≡ true
     used-valid i l = go (carriedAt lay bytes s i) refl
       where
-        go : (c : Bool) → carriedAt lay bytes s i ≡ c → validOf (nodeAt nodes i .action) ≡ true
+        go : (c : Bool) → carriedAt lay bytes s i ≡ c → validOf (actionIn (nodeAt nodes i)) ≡ true
         go true c =
-            ap (λ (x : Node). validOf (x .action)) (carried-read lay a bytes s few i l c)
+            ap (λ (x : Node). validOf (actionIn x)) (carried-read lay a bytes s few i l c)
             ∙ node-valid (payloadPlace lay bytes s i) (node-at n i l c)
         go false c =
-            ap (λ (x : Node). validOf (x .action))
+            ap (λ (x : Node). validOf (actionIn x))
             (used-read lay a bytes s few i l ∙ sym (node-given lay a bytes (payloadPlace lay bytes s i) (linkOf bytes (listPlace lay) s i) c))
             ∙ v
 
@@ -97,5 +97,5 @@ module _ (lay : Layout) (a : Action) (bytes : List ℕ) (s : ℕ) (few : s ≤ 6
       go i l false e = refl
       go i l true e =
           both (validOf (actionAt bytes (payloadPlace lay bytes s i))) _
-          (ap (λ (x : Node). validOf (x .action)) (sym (carried-read lay a bytes s few i l e)) ∙ links.grown-valid (treeAt lay a bytes s) g i l)
+          (ap (λ (x : Node). validOf (actionIn x)) (sym (carried-read lay a bytes s few i l e)) ∙ links.grown-valid (treeAt lay a bytes s) g i l)
           (m i l e)

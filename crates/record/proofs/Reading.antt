@@ -17,7 +17,7 @@ use Rattle.remy.specs.Cube.{usualEnds}
 use Rattle.rule_tree.specs.declared.Node.{Node}
 use Rattle.rule_tree.specs.declared.RuleTree.{RuleTree}
 use Rattle.rule_tree.specs.Lists.{tabulate, countBelow}
-use Rattle.rule_tree.specs.Nodes.{noNode, nodeAt, nodeCount, blankNode, noAction, leafWith}
+use Rattle.rule_tree.specs.Nodes.{noNode, nodeAt, nodeCount, blankNode, nodeHolding}
 use Rattle.rule_tree.proofs.Lists.{length-tabulate, getD-tabulate, countBelow-le}
 use Rattle.rule_tree.proofs.Owners.{same-or-not, below-or-not}
 use Rattle.trainer.specs.declared.settings.Settings.{Settings}
@@ -83,16 +83,14 @@ pub record Gathered (lay : Layout) (a : Action) (bytes : List ℕ) (s : ℕ) (no
   pub left : (j : ℕ) → i ≤ j → j < 513 → nodeAt nodes j ≡ blankNode
 
 module _ (lay : Layout) (a : Action) (bytes : List ℕ) (s : ℕ) where
-  pub gathered-none : (z : Action) (at : ℕ) → z ≡ noAction → at ≡ nodesPlace lay s
-      → Gathered lay a bytes s (replicate 513 (record { action = z; children = 0; optimized = false })) at 0
+  pub gathered-none : (x : Node) (at : ℕ) → x ≡ blankNode → at ≡ nodesPlace lay s → Gathered lay a bytes s (replicate 513 x) at 0
   unfolding countBelow
-  gathered-none z at e ea =
-      let x : Node = record { action = z; children = 0; optimized = false } in
+  gathered-none x at e ea =
       record {
         long = length-replicate 513 x;
         place = omega arith;
         done = λ j l. absurd (omega arith);
-        left = λ j l m. getD-replicate 513 j x noNode m ∙ ap leafWith e;
+        left = λ j l m. getD-replicate 513 j x noNode m ∙ e;
       }
 
   pub node-is : (i : ℕ) → i < nodeCount s → nodeWith lay a bytes (payloadPlace lay bytes s i) (linkOf bytes (listPlace lay) s i) ≡ nodeAtPlace lay a bytes s i
@@ -147,14 +145,14 @@ child-is bytes cs list to s i e el few l =
 module _ (lay : Layout) (a : Action) (bytes : List ℕ) (at c : ℕ) where
   abbrev nodeBy : Bool → Node
   nodeBy b =
-      cond b (record { action = actionAt bytes at; children = c; optimized = flagAt bytes (at + 20) })
-      (record { action = a; children = c; optimized = false })
+      cond b (nodeHolding (actionAt bytes at) c (flagAt bytes (at + 20)))
+      (nodeHolding a c false)
 
   pub node-read : {x : Action} {m : Bool} → carries lay c ≡ true → x ≡ actionAt bytes at → m ≡ flagAt bytes (at + 20)
-      → _≡_ {A = Node} (record { action = x; children = c; optimized = m }) (nodeWith lay a bytes at c)
-  node-read z p q = (λ j. record { action = p j; children = c; optimized = q j }) ∙ ap nodeBy (sym z)
+      → _≡_ {A = Node} (nodeHolding x c m) (nodeWith lay a bytes at c)
+  node-read z p q = (λ j. nodeHolding (p j) c (q j)) ∙ ap nodeBy (sym z)
 
-  pub node-given : carries lay c ≡ false → _≡_ {A = Node} (record { action = a; children = c; optimized = false }) (nodeWith lay a bytes at c)
+  pub node-given : carries lay c ≡ false → _≡_ {A = Node} (nodeHolding a c false) (nodeWith lay a bytes at c)
   node-given z = ap nodeBy (sym z)
 
 -- ---- the upper ends

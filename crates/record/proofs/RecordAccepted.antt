@@ -11,7 +11,7 @@ use Rattle.floats.proofs.Bits.{bits-below, read-fits}
 use Rattle.remy.specs.declared.action.Action.{Action}
 use Rattle.rule_tree.specs.declared.Node.{Node}
 use Rattle.rule_tree.specs.Lists.{tabulate, countBelow}
-use Rattle.rule_tree.specs.Nodes.{nodeAt, nodeCount}
+use Rattle.rule_tree.specs.Nodes.{nodeAt, nodeCount, actionIn}
 use Rattle.rule_tree.specs.Grown.{grownOf}
 use Rattle.rule_tree.proofs.Links as links
 use Rattle.rule_tree.proofs.Plain.{and-l, and-r}
@@ -98,7 +98,7 @@ module _ (lay : Layout) (v : ℕ) (bytes : List ℕ) (all : Bytes bytes) (a : ac
       moved bytes (nodesPlace lay s + 21 * countBelow i (carried lay nodes)) at (nodeBytes x) (place-same lay given bytes s few i (omega arith))
       (node-stands bytes lay (nodesPlace lay s) nodes i (nodeCount s) l (held-same lay given bytes s few i l ∙ c)
       (subst (λ (r : List ℕ). Stands r (nodesPlace lay s) (payloadBytes lay nodes (nodeCount s))) again (nodes-place lay v t grown full))) in
-      flag-place bytes (at + 20) (x .optimized) [] (next bytes at 20 (actionBytes (x .action)) (_ ∷ []) (action-count (x .action)) h)
+      flag-place bytes (at + 20) (x .optimized) [] (next bytes at 20 (actionBytes (actionIn x)) (_ ∷ []) (action-count (actionIn x)) h)
 
   best-in : Plain (numberAt bytes (statePlace lay s + 11) 8)
   best-in =

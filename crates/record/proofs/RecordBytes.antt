@@ -7,7 +7,7 @@ use lib.ListN.{length, getD, take}
 use Rattle.remy.specs.declared.action.Action.{Action}
 use Rattle.rule_tree.specs.declared.Node.{Node}
 use Rattle.rule_tree.specs.declared.RuleTree.{RuleTree}
-use Rattle.rule_tree.specs.Nodes.{nodeAt, nodeCount, childrenOf}
+use Rattle.rule_tree.specs.Nodes.{nodeAt, nodeCount, childrenOf, actionIn}
 use Rattle.rule_tree.specs.Cubes.{splitNodes}
 use Rattle.trainer.specs.declared.settings.Settings.{Settings}
 use Rattle.trainer.specs.declared.Trainer.{Trainer}
@@ -78,7 +78,7 @@ small-node : (lay : Layout) (x : Node) → Small (nodeFields lay x)
 small-node lay x = go (carries lay (x .children))
   where
     go : (b : Bool) → Small (cond b (nodeBytes x) [])
-    go true = small-action-then (x .action) (small-flag (x .optimized) small-none)
+    go true = small-action-then (actionIn x) (small-flag (x .optimized) small-none)
     go false = small-none
 
 small-payload : (lay : Layout) (nodes : List Node) (n : ℕ) → Small (payloadBytes lay nodes n)

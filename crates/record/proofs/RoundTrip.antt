@@ -13,7 +13,7 @@ use lib.Seq.{getD-take, length-take-le, ext-getD}
 use Rattle.remy.specs.declared.action.Action.{Action}
 use Rattle.remy.specs.Cube.{usualEnds}
 use Rattle.rule_tree.specs.Lists.{tabulate, countBelow}
-use Rattle.rule_tree.specs.Nodes.{noNode, nodeAt, nodeCount, childrenOf}
+use Rattle.rule_tree.specs.Nodes.{noNode, nodeAt, nodeCount, childrenOf, nodeHolding, actionIn}
 use Rattle.rule_tree.specs.Cubes.{splitNodes, ownerBelow}
 use Rattle.rule_tree.specs.Grown.{grownOf}
 use Rattle.rule_tree.proofs.Lists.{length-tabulate, getD-tabulate}
@@ -51,7 +51,7 @@ pub record TrainerFits (t : Trainer) : Type 0 where
 -- a layout can carry a trainer: what it does not write is what is read in its place
 pub record Carried (lay : Layout) (t : Trainer) : Type 0 where
   pub parents : (i : ℕ) → i < 513 → carried lay (t .tree .nodes) i ≡ false
-      → nodeAt (t .tree .nodes) i ≡ record { action = givenAction (t .settings); children = kids (t .tree) i; optimized = false }
+      → nodeAt (t .tree .nodes) i ≡ nodeHolding (givenAction (t .settings)) (kids (t .tree) i) false
   pub ends : lay .ends ≡ false → t .tree .ends ≡ usualEnds
 
 module _ (lay : Layout) (v : ℕ) (t : Trainer) (f : TrainerFits t) (g : grownOf (t .tree) ≡ true) (can : Carried lay t) where
@@ -144,10 +144,10 @@ module _ (lay : Layout) (v : ℕ) (t : Trainer) (f : TrainerFits t) (g : grownOf
       let h =
       moved bytes (nodesPlace lay s + 21 * countBelow i held) at (nodeBytes x) (sym (place-same i (omega arith)))
       (node-stands bytes lay (nodesPlace lay s) (t .tree .nodes) i (nodeCount s) l z (nodes-place lay v t g full)) in
-      let a = action-back bytes at (x .action) (f .tree .actions i b) (first bytes at (actionBytes (x .action)) (_ ∷ []) h) in
-      let d = flag-back bytes (at + 20) (x .optimized) [] (next bytes at 20 (actionBytes (x .action)) (_ ∷ []) (action-count (x .action)) h) in
+      let a = action-back bytes at (actionIn x) (f .tree .actions i b) (first bytes at (actionBytes (actionIn x)) (_ ∷ []) h) in
+      let d = flag-back bytes (at + 20) (x .optimized) [] (next bytes at 20 (actionBytes (actionIn x)) (_ ∷ []) (action-count (actionIn x)) h) in
       let e = sym (link-back i b) in
-      (λ j. record { action = x .action; children = e j; optimized = x .optimized })
+      (λ j. nodeHolding (actionIn x) (e j) (x .optimized))
       ∙ node-read lay given bytes at (linkOf bytes list s i) (held-same i b ∙ z) (sym a) (sym d)
       ∙ node-is lay given bytes s i l
 
@@ -157,7 +157,7 @@ module _ (lay : Layout) (v : ℕ) (t : Trainer) (f : TrainerFits t) (g : grownOf
       let b : i < 513 = omega arith in
       let e = sym (link-back i b) in
       can .parents i b z
-      ∙ (λ j. record { action = given; children = e j; optimized = false })
+      ∙ (λ j. nodeHolding given (e j) false)
       ∙ node-given lay given bytes (payloadPlace lay bytes s i) (linkOf bytes list s i) (held-same i b ∙ z)
       ∙ node-is lay given bytes s i l
 

@@ -12,7 +12,7 @@ use lib.ListN.{length, getD}
 use Rattle.remy.specs.declared.action.Action.{Action}
 use Rattle.rule_tree.specs.declared.Node.{Node}
 use Rattle.rule_tree.specs.Lists.{tabulate}
-use Rattle.rule_tree.specs.Nodes.{nodeAt, nodeCount, isLeaf}
+use Rattle.rule_tree.specs.Nodes.{nodeAt, nodeCount, isLeaf, actionIn}
 use Rattle.rule_tree.specs.Calls.{leafIn}
 use Rattle.rule_tree.proofs.Owners.{below-or-not}
 use Rattle.rule_tree.proofs.Plain.{and-l, and-r}
@@ -53,12 +53,12 @@ module _ (lay : Layout) (a : Action) (bytes : List ℕ) (s : ℕ) (few : s ≤ 6
       (λ (l : nodeCount s ≤ i). rw (le-ltb i (nodeCount s) l))
       (below-or-not i (nodeCount s))
 
-  unmarked-action : (i : ℕ) → unmarkedLeaf lay bytes s i ≡ true → nodeAt nodes i .action ≡ actionAt bytes (payloadPlace lay bytes s i)
+  unmarked-action : (i : ℕ) → unmarkedLeaf lay bytes s i ≡ true → actionIn (nodeAt nodes i) ≡ actionAt bytes (payloadPlace lay bytes s i)
   unfolding unmarkedLeaf
   unmarked-action i h =
       let l = ltb-true i (nodeCount s) (and-l (ltb i (nodeCount s)) _ h) in
       let z = eqb-true _ 0 (and-l (eqb (linkOf bytes (listPlace lay) s i) 0) _ (and-r (ltb i (nodeCount s)) _ h)) in
-      ap (λ (x : Node). x .action) (carried-read lay a bytes s few i l (leaf-carried lay (linkOf bytes (listPlace lay) s i) z))
+      ap (λ (x : Node). actionIn x) (carried-read lay a bytes s few i l (leaf-carried lay (linkOf bytes (listPlace lay) s i) z))
 
 -- ---- the state that stands at a place
 -- what the phase does not ask: in 5, that best is no other NaN

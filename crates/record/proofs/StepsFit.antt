@@ -14,7 +14,7 @@ use Rattle.rule_tree.specs.declared.RuleTree.{RuleTree}
 use Rattle.rule_tree.specs.declared.Chosen.{Chosen}
 use Rattle.rule_tree.specs.declared.Chosen.the-variants.{Leaf, Nobody, Refused}
 use Rattle.rule_tree.specs.Lists.{total}
-use Rattle.rule_tree.specs.Nodes.{nodeAt}
+use Rattle.rule_tree.specs.Nodes.{nodeAt, actionIn}
 use Rattle.rule_tree.specs.Counts.{countsHold, usedIn}
 use Rattle.rule_tree.specs.Change.{freshTree, withAction, withMark, withoutMarks}
 use Rattle.rule_tree.proofs.GrownTree.{leaf-below}
@@ -114,7 +114,7 @@ module _ (t : Trainer) (f : Fit t) where
     from-fits : (tree : RuleTree) (best : Float) → TreeFits tree → T (fits binary64 best) → Fit (tryFrom t tree best)
     unfolding tryFrom
     from-fits tree best g b =
-        either (eqb (length (candidatesOf (t .settings) (nodeAt (tree .nodes) (t .leaf) .action))) 0) _ _ (marked-fits tree g)
+        either (eqb (length (candidatesOf (t .settings) (actionIn (nodeAt (tree .nodes) (t .leaf))))) 0) _ _ (marked-fits tree g)
         (record { settings = f .settings; tree = g; best = b; score = zero-fits })
 
     last-fits : (kept : ℕ) (score : Float) → T (fits binary64 score) → Fit (afterLast t kept score)

@@ -10,7 +10,7 @@ use lib.ListN.{length, getD, List·getD-eq-default}
 use Rattle.remy.specs.declared.action.Action.{Action}
 use Rattle.rule_tree.specs.declared.Node.{Node}
 use Rattle.rule_tree.specs.Lists.{tabulate, countBelow}
-use Rattle.rule_tree.specs.Nodes.{noNode, nodeAt, nodeCount, childrenOf, blankNode}
+use Rattle.rule_tree.specs.Nodes.{noNode, nodeAt, nodeCount, childrenOf, blankNode, nodeHolding}
 use Rattle.rule_tree.proofs.Lists.{length-tabulate, getD-tabulate}
 use Rattle.rule_tree.proofs.LinkWays.{children-at, children-count}
 use Rattle.rule_tree.proofs.Owners.{below-or-not}
@@ -31,7 +31,7 @@ leaf-carried lay c e = ap (λ (b : Bool). lay .parents || b) (eq-eqb c 0 e) ∙ 
 with-children : (lay : Layout) (a : Action) (bytes : List ℕ) (at c : ℕ) → nodeWith lay a bytes at c .children ≡ c
 with-children lay a bytes at c = go (carries lay c)
   where
-    go : (b : Bool) → cond {A = Node} b (record { action = actionAt bytes at; children = c; optimized = flagAt bytes (at + 20) }) (record { action = a; children = c; optimized = false }) .children ≡ c
+    go : (b : Bool) → cond {A = Node} b (nodeHolding (actionAt bytes at) c (flagAt bytes (at + 20))) (nodeHolding a c false) .children ≡ c
     go true = refl
     go false = refl
 
@@ -73,11 +73,7 @@ module _ (lay : Layout) (a : Action) (bytes : List ℕ) (s : ℕ) (few : s ≤ 6
 
   pub carried-read : (i : ℕ) → i < nodeCount s → carriedAt lay bytes s i ≡ true
       → nodeAt nodes i
-      ≡ record {
-        action = actionAt bytes (payloadPlace lay bytes s i);
-        children = linkOf bytes list s i;
-        optimized = flagAt bytes (payloadPlace lay bytes s i + 20);
-      }
+      ≡ nodeHolding (actionAt bytes (payloadPlace lay bytes s i)) (linkOf bytes list s i) (flagAt bytes (payloadPlace lay bytes s i + 20))
   carried-read i l c =
       used-read i l
       ∙ sym (node-read lay a bytes (payloadPlace lay bytes s i) (linkOf bytes list s i) c refl refl)

@@ -18,7 +18,7 @@ use Rattle.remy.specs.Cube as cube
 use Rattle.rule_tree.specs.declared.Node.{Node}
 use Rattle.rule_tree.specs.declared.RuleTree.{RuleTree}
 use Rattle.rule_tree.specs.Lists.{fill}
-use Rattle.rule_tree.specs.Nodes.{noNode, nodeAt, leafWith, linkedTo, blankNode}
+use Rattle.rule_tree.specs.Nodes.{noNode, nodeAt, leafWith, linkedTo, blankNode, actionIn, nodeHolding}
 use Rattle.rule_tree.specs.Change.{freshTree, withAction, withMark, unmarkedNode, withoutMarks, splitAt}
 use Rattle.rule_tree.proofs.Plain.{ActionFits}
 use Rattle.rule_tree.proofs.Owners.{below-or-not}
@@ -103,30 +103,30 @@ candidate-fits s a j h =
 
 -- ---- trees
 abbrev AllFit : List Node → Type 0
-AllFit nodes = (i : ℕ) → ActionFits (nodeAt nodes i .action)
+AllFit nodes = (i : ℕ) → ActionFits (actionIn (nodeAt nodes i))
 
-set-fits : (xs : List Node) (k : ℕ) (x : Node) → AllFit xs → ActionFits (x .action) → AllFit (set xs k x)
+set-fits : (xs : List Node) (k : ℕ) (x : Node) → AllFit xs → ActionFits (actionIn x) → AllFit (set xs k x)
 set-fits [] k x h f i = h i
 set-fits (y ∷ ys) zero x h f zero = f
 set-fits (y ∷ ys) zero x h f (suc i) = h (suc i)
 set-fits (y ∷ ys) (suc k) x h f zero = h zero
 set-fits (y ∷ ys) (suc k) x h f (suc i) = set-fits ys k x (λ j. h (suc j)) f i
 
-fill-fits : (xs : List Node) (at n : ℕ) (x : Node) → AllFit xs → ActionFits (x .action) → AllFit (fill xs at n x)
+fill-fits : (xs : List Node) (at n : ℕ) (x : Node) → AllFit xs → ActionFits (actionIn x) → AllFit (fill xs at n x)
 unfolding fill
 fill-fits xs at zero x h f = h
 fill-fits xs at (suc n) x h f = set-fits (fill xs at n x) (at + n) x (fill-fits xs at n x h f) f
 
-replicate-fits : (n : ℕ) (x : Node) → ActionFits (x .action) → AllFit (replicate n x)
+replicate-fits : (n : ℕ) (x : Node) → ActionFits (actionIn x) → AllFit (replicate n x)
 replicate-fits zero x f i = missing-fits
 replicate-fits (suc n) x f zero = f
 replicate-fits (suc n) x f (suc i) = replicate-fits n x f i
 
-unmarked-fits : (x : Node) → ActionFits (x .action) → ActionFits (unmarkedNode x .action)
+unmarked-fits : (x : Node) → ActionFits (actionIn x) → ActionFits (actionIn (unmarkedNode x))
 unfolding unmarkedNode
 unmarked-fits x f = go (eqb (x .children) 0)
   where
-    go : (b : Bool) → ActionFits (cond b (record { action = x .action; children = x .children; optimized = false }) x .action)
+    go : (b : Bool) → ActionFits (actionIn (cond b (nodeHolding (actionIn x) (x .children) false) x))
     go true = f
     go false = f
 
@@ -139,7 +139,7 @@ module _ (t : RuleTree) (f : TreeFits t) where
   node-fits : AllFit (t .nodes)
   node-fits i =
       ⊎-elim (λ (l : i < 513). f .actions i l)
-      (λ (l : 513 ≤ i). subst (λ (x : Node). ActionFits (x .action)) (sym (past-end (t .nodes) i noNode (omega (arith, f .full)))) missing-fits)
+      (λ (l : 513 ≤ i). subst (λ (x : Node). ActionFits (actionIn x)) (sym (past-end (t .nodes) i noNode (omega (arith, f .full)))) missing-fits)
       (below-or-not i 513)
 
   pub split-fits : (i : ℕ) → TreeFits (splitAt t i)
@@ -150,7 +150,7 @@ module _ (t : RuleTree) (f : TreeFits t) where
         full = split-length t i ∙ f .full;
         ends = f .ends;
         actions = λ j l.
-            fill-fits (set (t .nodes) i (linkedTo (nodeAt (t .nodes) i) first)) first 8 (leafWith (nodeAt (t .nodes) i .action))
+            fill-fits (set (t .nodes) i (linkedTo (nodeAt (t .nodes) i) first)) first 8 (leafWith (actionIn (nodeAt (t .nodes) i)))
             (set-fits (t .nodes) i (linkedTo (nodeAt (t .nodes) i) first) node-fits (node-fits i)) (node-fits i) j;
       }
 

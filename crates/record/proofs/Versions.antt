@@ -11,7 +11,7 @@ use lib.ListN.{length}
 use Rattle.remy.specs.declared.action.Action.{Action}
 use Rattle.remy.specs.Cube.{usualEnds}
 use Rattle.rule_tree.specs.declared.Node.{Node}
-use Rattle.rule_tree.specs.Nodes.{noNode, nodeAt, leafWith, nodeCount, blankNode}
+use Rattle.rule_tree.specs.Nodes.{noNode, nodeAt, leafWith, nodeCount, blankNode, nodeHolding, actionIn}
 use Rattle.rule_tree.specs.Grown.{grownOf}
 use Rattle.rule_tree.specs.Change.{newestParent, undone}
 use Rattle.rule_tree.proofs.Lists.{getD-tabulate}
@@ -39,7 +39,7 @@ use Rattle.record.proofs.BytesFit.{loaded-is, loaded-fits}
 -- ---- a layout carries what is read in it
 -- what a node that is not written is read as
 abbrev given : Action → ℕ → Node
-given a c = record { action = a; children = c; optimized = false }
+given a c = nodeHolding a c false
 
 module _ (lay : Layout) (a : Action) (bytes : List ℕ) (s i : ℕ) where
   abbrev at : ℕ
@@ -49,7 +49,7 @@ module _ (lay : Layout) (a : Action) (bytes : List ℕ) (s i : ℕ) where
   link = linkOf bytes (listPlace lay) s i
 
   abbrev by : Bool → Bool → Node
-  by b c = cond b (cond c (record { action = actionAt bytes at; children = link; optimized = flagAt bytes (at + 20) }) (given a link)) blankNode
+  by b c = cond b (cond c (nodeHolding (actionAt bytes at) link (flagAt bytes (at + 20))) (given a link)) blankNode
 
   place-given : carries lay (nodeAtPlace lay a bytes s i .children) ≡ false → nodeAtPlace lay a bytes s i ≡ given a (nodeAtPlace lay a bytes s i .children)
   unfolding nodeAtPlace
@@ -92,7 +92,7 @@ pub record FirstLoaded (bytes : List ℕ) (t : Trainer) : Type 0 where
   pub accepted : acceptedOf t ≡ true
   pub written : recordIn (layoutOf 1) 1 t ≡ bytes
   pub parents : (i : ℕ) → i < 513 → (kids (t .tree) i ≡ 0 → ⊥)
-      → nodeAt (t .tree .nodes) i ≡ record { action = t .settings .«default_action»; children = kids (t .tree) i; optimized = false }
+      → nodeAt (t .tree .nodes) i ≡ nodeHolding (t .settings .«default_action») (kids (t .tree) i) false
   pub ends : t .tree .ends ≡ usualEnds
 
 module _ (bytes : List ℕ) (t : Trainer) (e : loadOf bytes ≡ taken t) (v : versionAt bytes ≡ 1) where
@@ -117,7 +117,7 @@ module _ (bytes : List ℕ) (t : Trainer) (e : loadOf bytes ≡ taken t) (v : ve
       let c = newest-children (t .tree) full g s in
       let b = newest-before (t .tree) full g s in
       undo-parent (t .tree) full g s
-      ∙ ap (λ (x : Node). record { action = x .action; children = 0; optimized = x .optimized })
+      ∙ ap (λ (x : Node). nodeHolding (actionIn x) 0 (x .optimized))
       (load-first-is .parents i (omega (arith, b, grown-splits (t .tree) g)) (λ z. absurd (omega (arith, z, c))))
 
 -- every such trainer loads from its version 1 record

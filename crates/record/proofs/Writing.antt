@@ -14,7 +14,7 @@ use Rattle.remy.specs.declared.action.Action.{Action}
 use Rattle.remy.specs.declared.point.Point.{Point}
 use Rattle.rule_tree.specs.declared.Node.{Node}
 use Rattle.rule_tree.specs.declared.RuleTree.{RuleTree}
-use Rattle.rule_tree.specs.Nodes.{nodeAt, childrenOf}
+use Rattle.rule_tree.specs.Nodes.{nodeAt, childrenOf, actionIn}
 use Rattle.rule_tree.specs.Cubes.{splitNodes}
 use Rattle.trainer.specs.declared.settings.Settings.{Settings}
 use Rattle.trainer.specs.declared.Trainer.{Trainer}
@@ -130,12 +130,12 @@ ends-room lay e = ap (λ (b : Bool). cond b 24 0) e
 pub node-count : (lay : Layout) (x : Node) → carries lay (x .children) ≡ true → length (nodeFields lay x) ≡ 21
 node-count lay x e = ap (λ (b : Bool). length (cond b (nodeBytes x) [])) e ∙ simp (length-append, bytes-count)
 
-pub node-written : (l : List ℕ) (at : ℕ) (lay : Layout) (x : Node) (b : ℕ) {l1 : List ℕ} → carries lay (x .children) ≡ true → b ≡ flagByte (x .optimized)
-    → l1 ≡ sets l at (actionBytes (x .action)) → (at + 21 ≡ at + length (nodeFields lay x)) × (set l1 (at + 20) b ≡ sets l at (nodeFields lay x))
-node-written l at lay x b {l1} e f p = (
+pub node-written : (l : List ℕ) (at : ℕ) (lay : Layout) (x : Node) (b : ℕ) {a : Action} {l1 : List ℕ} → carries lay (x .children) ≡ true → b ≡ flagByte (x .optimized)
+    → a ≡ actionIn x → l1 ≡ sets l at (actionBytes a) → (at + 21 ≡ at + length (nodeFields lay x)) × (set l1 (at + 20) b ≡ sets l at (nodeFields lay x))
+node-written l at lay x b {a} {l1} e f d p = (
   ap (λ (n : ℕ). at + n) (sym (node-count lay x e)),
-  wrote l l1 at 20 (actionBytes (x .action)) (b ∷ []) refl p (action-count (x .action))
-      ∙ ap (λ (k : ℕ). sets l at (actionBytes (x .action) ++ (k ∷ []))) f
+  wrote l l1 at 20 (actionBytes (actionIn x)) (b ∷ []) refl (p ∙ ap (λ (z : Action). sets l at (actionBytes z)) d) (action-count (actionIn x))
+      ∙ ap (λ (k : ℕ). sets l at (actionBytes (actionIn x) ++ (k ∷ []))) f
       ∙ ap (λ (t : Bool). sets l at (cond t (nodeBytes x) [])) (sym e),
 )
 

@@ -10,7 +10,7 @@ use Rattle.remy.specs.Cube.{usualEnds}
 use Rattle.rule_tree.specs.declared.Node.{Node}
 use Rattle.rule_tree.specs.declared.RuleTree.{RuleTree}
 use Rattle.rule_tree.specs.Lists.{tabulate, countBelow}
-use Rattle.rule_tree.specs.Nodes.{nodeCount, blankNode}
+use Rattle.rule_tree.specs.Nodes.{nodeCount, blankNode, nodeHolding}
 use Rattle.trainer.specs.declared.settings.Settings.{Settings}
 use Rattle.trainer.specs.declared.Trainer.{Trainer}
 use Rattle.record.specs.declared.inner.layout.Layout.{Layout}
@@ -59,8 +59,8 @@ payloadPlace l bytes s i = nodesPlace l s + 21 * countBelow i (carriedAt l bytes
 abbrev pub nodeWith : Layout → Action → List ℕ → ℕ → ℕ → Node
 nodeWith l a bytes at c =
     cond (carries l c)
-    (record { action = actionAt bytes at; children = c; optimized = flagAt bytes (at + 20) })
-    (record { action = a; children = c; optimized = false })
+    (nodeHolding (actionAt bytes at) c (flagAt bytes (at + 20)))
+    (nodeHolding a c false)
 
 unfoldable pub nodeAtPlace : Layout → Action → List ℕ → ℕ → ℕ → Node
 unfolding linkOf

@@ -5,7 +5,7 @@ use Prim.Native.Nat.{ℕ, zero, suc, _+_}
 use lib.ListN.{length, take}
 use Rattle.rule_tree.specs.declared.Node.{Node}
 use Rattle.rule_tree.specs.declared.RuleTree.{RuleTree}
-use Rattle.rule_tree.specs.Nodes.{nodeAt, nodeCount, childrenOf}
+use Rattle.rule_tree.specs.Nodes.{nodeAt, nodeCount, childrenOf, actionIn}
 use Rattle.rule_tree.specs.Cubes.{splitNodes}
 use Rattle.trainer.specs.declared.settings.Settings.{Settings}
 use Rattle.trainer.specs.declared.Trainer.{Trainer}
@@ -33,7 +33,7 @@ splitsBytes t = bytesOf 2 (t .splits) ++ numbersBytes (take (t .splits) (splitNo
 
 -- "its action and mark byte"
 abbrev pub nodeBytes : Node → List ℕ
-nodeBytes x = actionBytes (x .action) ++ (flagByte (x .optimized) ∷ [])
+nodeBytes x = actionBytes (actionIn x) ++ (flagByte (x .optimized) ∷ [])
 
 -- by rising node, those of the first n that the layout carries: in version 1 "per leaf by rising node"
 unfoldable pub payloadBytes : Layout → List Node → ℕ → List ℕ

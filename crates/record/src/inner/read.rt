@@ -91,17 +91,9 @@ fn node_with(bytes: &[u8], l: Layout, a: Action, at: usize, c: u16) -> Node
     if layout::carries_node(l, c) {
         let action = action_at(bytes, at);
         let optimized = flag_at(bytes, at + 20);
-        return Node {
-            action,
-            children: c,
-            optimized,
-        };
+        return Node::new(action, c, optimized);
     }
-    Node {
-        action: a,
-        children: c,
-        optimized: false,
-    }
+    Node::new(a, c, false)
 }
 
 // The place after the payload of a node with the first child c.
@@ -123,12 +115,7 @@ fn nodes_at(bytes: &[u8], l: Layout, a: Action, s: u16) -> [Node; 513]
     let list = 120 + layout::ends_size(l);
     let children = links_at(bytes, list, s);
     let n = 1 + 8 * (s as usize);
-    let none = Action::new(0.0, 0, 0.0);
-    let blank = Node {
-        action: none,
-        children: 0,
-        optimized: false,
-    };
+    let blank = rule_tree::inner::change::blank_node();
     let mut nodes = [blank; 513];
     let mut at = list + 2 * (s as usize);
     let mut i: usize = 0;

@@ -102,7 +102,7 @@ fn put_node(buf: &mut [u8], at: usize, l: Layout, x: Node) -> usize
     ensures { λ r. ⌜ (r ≡ at + length (nodeFields l x)) × (now (buf .exit) ≡ sets (now (buf .entry)) at (nodeFields l x)) ⌝ }
 {
     if layout::carries_node(l, x.children) {
-        let a = x.action;
+        let a = x.action();
         let mark = flag_of(x.optimized);
         put_action(buf, at, a);
         buf[at + 20] = mark;

@@ -17,11 +17,17 @@ add-flag-at c = search needs
 flag-at-requires : tie.Need-flag-at-requires
 flag-at-requires c κs = search needs
 
+new-requires : tie.Need-new-requires
+new-requires c κs = search needs
+
 returns : tie.Need-returns
-returns c = law.node-read (c .before .before .before .before .before .args .l) (c .before .before .before .before .before .args .a) (c .before .before .before .before .before .args .bytes .now) (c .before .before .before .before .before .args .at) _ (sym (c .before .before .before .carries-node .ensures) ∙ c .before .before .if1 .taken) (c .before .action-at .ensures) (c .flag-at .ensures)
+returns c = c .new .ensures ∙ law.node-read (c .before .before .before .before .before .before .args .l) (c .before .before .before .before .before .before .args .a) (c .before .before .before .before .before .before .args .bytes .now) (c .before .before .before .before .before .before .args .at) _ (sym (c .before .before .before .before .carries-node .ensures) ∙ c .before .before .before .if1 .taken) (c .before .before .action-at .ensures) (c .before .flag-at .ensures)
+
+new-requires-2 : tie.Need-new-requires-2
+new-requires-2 c κs = search needs
 
 returns-2 : tie.Need-returns-2
-returns-2 c = law.node-given (c .before .before .before .args .l) (c .before .before .before .args .a) (c .before .before .before .args .bytes .now) (c .before .before .before .args .at) _ (sym (c .before .carries-node .ensures) ∙ c .if1 .left)
+returns-2 c = c .new2 .ensures ∙ law.node-given (c .before .before .before .before .args .l) (c .before .before .before .before .args .a) (c .before .before .before .before .args .bytes .now) (c .before .before .before .before .args .at) _ (sym (c .before .before .carries-node .ensures) ∙ c .before .if1 .left)
 
 pub node-with-spec : {M : Type 1} → statement M
 node-with-spec =
@@ -31,5 +37,7 @@ node-with-spec =
     action-at-requires
     add-flag-at
     flag-at-requires
+    new-requires
     returns
+    new-requires-2
     returns-2)

@@ -1,6 +1,5 @@
 -- `record::inner::read::nodes_at` meets its contract. The loop's invariant: the first i nodes are read, and at is the place of the next payload. Assumes nothing.
 use lib.ListN.{getD}
-use lib.Ieee.{ofBits}
 use Rattle.record.proofs.Reading as law
 use native.Mathlib.Omega.{arith}
 use Prim.Native.Nat.{_+_, _-_, _≤_}
@@ -29,8 +28,8 @@ mul-n c = search needs
 add-n : tie.Need-add-n Inv-loop μ-loop
 add-n c = search needs
 
-new-requires : tie.Need-new-requires Inv-loop μ-loop
-new-requires c κs = search needs
+blank-node-requires : tie.Need-blank-node-requires Inv-loop μ-loop
+blank-node-requires c κs = search needs
 
 mul-at : tie.Need-mul-at Inv-loop μ-loop
 mul-at c = search needs
@@ -39,8 +38,7 @@ add-at : tie.Need-add-at Inv-loop μ-loop
 add-at c = search needs
 
 loop-holds : tie.Need-loop-holds Inv-loop μ-loop
-unfolding ofBits
-loop-holds c = (search needs, law.gathered-none (c .before .before .before .before .args .l) (c .before .before .before .before .args .a) (c .before .before .before .before .args .bytes .now) (c .before .before .before .before .args .s) (c .new .result) _ (c .new .ensures) (omega (arith, c .before .before .ends-size .ensures .0)))
+loop-holds c = (search needs, law.gathered-none (c .before .before .before .before .args .l) (c .before .before .before .before .args .a) (c .before .before .before .before .args .bytes .now) (c .before .before .before .before .args .s) (c .blank-node .result) _ (c .blank-node .ensures) (omega (arith, c .before .before .ends-size .ensures .0)))
 
 mul-c : tie.Need-mul-c Inv-loop μ-loop
 mul-c c = search needs
@@ -89,7 +87,7 @@ nodes-at-spec =
     links-at-requires
     mul-n
     add-n
-    new-requires
+    blank-node-requires
     mul-at
     add-at
     loop-holds

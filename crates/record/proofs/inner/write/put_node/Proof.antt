@@ -9,6 +9,9 @@ use Rattle.record.proofs.inner.write.put_node.Tie as tie
 carries-node-requires : tie.Need-carries-node-requires
 carries-node-requires c κs = search needs
 
+action-requires : tie.Need-action-requires
+action-requires c κs = search needs
+
 flag-of-requires : tie.Need-flag-of-requires
 flag-of-requires c κs = search needs
 
@@ -28,7 +31,7 @@ same-length : tie.Need-same-length
 same-length c = search needs
 
 returns : tie.Need-returns
-returns c = law.node-written (c .before .before .before .before .before .before .before .before .before .args .buf .now) (c .before .before .before .before .before .before .before .before .before .args .at) (c .before .before .before .before .before .before .before .before .before .args .l) (c .before .before .before .before .before .before .before .before .before .args .x) _ (sym (c .before .before .before .before .before .before .before .carries-node .ensures) ∙ c .before .before .before .before .before .before .if1 .taken) (c .before .before .before .before .flag-of .ensures) (c .before .before .put-action .ensures)
+returns c = law.node-written (c .before .before .before .before .before .before .before .before .before .args .buf .now) (c .before .before .before .before .before .before .before .before .before .args .at) (c .before .before .before .before .before .before .before .before .before .args .l) (c .before .before .before .before .before .before .before .before .before .args .x) _ (sym (c .before .before .before .before .before .before .before .carries-node .ensures) ∙ c .before .before .before .before .before .before .if1 .taken) (c .before .before .before .before .flag-of .ensures) (c .before .before .before .before .before .action .ensures) (c .before .before .put-action .ensures)
 
 returns-2 : tie.Need-returns-2
 returns-2 c = law.node-skipped (c .before .before .before .args .buf .now) (c .before .before .before .args .at) (c .before .before .before .args .l) (c .before .before .before .args .x) (sym (c .before .carries-node .ensures) ∙ c .if1 .left)
@@ -38,6 +41,7 @@ put-node-spec =
     tie.close
     (tie.spec
     carries-node-requires
+    action-requires
     flag-of-requires
     put-action-requires
     add-buf
