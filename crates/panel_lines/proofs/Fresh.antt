@@ -13,7 +13,7 @@ use Rattle.remy.specs.Cube as cube
 use Rattle.rule_tree.specs.declared.Node.{Node}
 use Rattle.rule_tree.specs.declared.RuleTree.{RuleTree}
 use Rattle.rule_tree.specs.Lists.{allBelow, tabulate, total}
-use Rattle.rule_tree.specs.Nodes.{noNode, nodeAt, blankNode, leafWith}
+use Rattle.rule_tree.specs.Nodes.{noNode, nodeAt, blankNode, leafWith, actionIn}
 use Rattle.rule_tree.specs.Counts.{countsHold}
 use Rattle.rule_tree.specs.Change.{freshTree}
 use Rattle.rule_tree.proofs.Changing.{fresh-length}
@@ -53,12 +53,12 @@ module _ (s : Settings) (f : SettingsFits s) where
     actions = at;
   }
     where
-      at : (i : ℕ) → i < 513 → ActionFits (nodeAt (tree .nodes) i .action)
+      at : (i : ℕ) → i < 513 → ActionFits (actionIn (nodeAt (tree .nodes) i))
       at zero l = f .default
       at (suc i) l =
           let e = getD-set-other (replicate 513 blankNode) 0 (suc i) (leafWith (s .«default_action»)) noNode (λ z. absurd (let q : suc i ≡ 0 = z in omega arith))
           ∙ getD-replicate 513 (suc i) blankNode noNode l in
-          subst (λ (x : Node). ActionFits (x .action)) (sym e) plain-fits
+          subst (λ (x : Node). ActionFits (actionIn x)) (sym e) plain-fits
 
   stand-fits : (phase stage round : ℕ) → stage < 2 ^ 32 → round < 2 ^ 32 → TrainerFits (stand s tree phase stage round)
   stand-fits phase stage round a b = record {

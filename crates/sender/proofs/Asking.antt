@@ -8,6 +8,7 @@ use lib.Ieee.{Float}
 use Rattle.quantities.specs.declared.Admitted.{Admitted}
 use Rattle.quantities.specs.declared.Admitted.the-variants as admitted
 use Rattle.quantities.specs.Time.{admitOf}
+use Rattle.remy.specs.declared.action.Action.{Action}
 use Rattle.remy.specs.declared.point.Point.{Point}
 use Rattle.remy.specs.declared.cube.Cube.{Cube}
 use Rattle.remy.specs.Cube.{rootOf}
@@ -15,7 +16,7 @@ use Rattle.rule_tree.specs.declared.RuleTree.{RuleTree}
 use Rattle.rule_tree.specs.declared.Looked.{Looked}
 use Rattle.rule_tree.specs.declared.inner.leaf.Holder.{Holder}
 use Rattle.rule_tree.specs.declared.inner.leaf.Holder.the-variants as holder
-use Rattle.rule_tree.specs.Nodes.{nodeAt, childrenOf}
+use Rattle.rule_tree.specs.Nodes.{nodeAt, childrenOf, actionIn}
 use Rattle.rule_tree.specs.Grown.{grownOf}
 use Rattle.rule_tree.specs.Leaf.{Ready, leafHolding, foundBy}
 use Rattle.rule_tree.proofs.Leaf.{leaf-below, found-by}
@@ -64,7 +65,7 @@ module _ (cs : List ℕ) (root : Cube) (ready : Ready cs root) where
 -- ---- the answer with its action
 module _ (t : RuleTree) where
   abbrev by : Draw → Asked → Reply
-  by draw r = answered r (nodeAt (t .nodes) (nodeOf r) .action) draw
+  by draw r = answered r (actionIn (nodeAt (t .nodes) (nodeOf r))) draw
 
   leaf-by : (m : Sender) (draw : Draw) (h : Holder) → by draw (askLeaf m h) ≡ ackWith m (foundBy (t .nodes) h) draw
   unfolding nodeOf answered askLeaf ackWith foundBy
@@ -93,11 +94,11 @@ module _ (t : RuleTree) where
   event-by g s Tick = refl
 
   -- of what the code has in its locals
-  pub replied : (s : Sender) (e : Event) {cs : List ℕ} {root : Cube} {r : Asked} {node : ℕ} {d : Draw} {x : Reply} → grownOf t ≡ true
-      → cs ≡ childrenOf (t .nodes) → root ≡ rootOf (t .ends) → r ≡ askFor cs root s e → node ≡ nodeOf r → d ≡ drawOf e
-      → x ≡ answered r (nodeAt (t .nodes) node .action) d → x ≡ repliedTo s (on t e)
-  replied s e {r = r} g l z a n d f =
-      f ∙ (λ j. answered r (nodeAt (t .nodes) (n j) .action) (d j))
+  pub replied : (s : Sender) (e : Event) {cs : List ℕ} {root : Cube} {r : Asked} {node : ℕ} {own : Action} {d : Draw} {x : Reply} → grownOf t ≡ true
+      → cs ≡ childrenOf (t .nodes) → root ≡ rootOf (t .ends) → r ≡ askFor cs root s e → node ≡ nodeOf r → own ≡ actionIn (nodeAt (t .nodes) node)
+      → d ≡ drawOf e → x ≡ answered r own d → x ≡ repliedTo s (on t e)
+  replied s e {r = r} g l z a n o d f =
+      f ∙ (λ j. answered r (o j) (d j)) ∙ ap (λ (i : ℕ). answered r (actionIn (nodeAt (t .nodes) i)) (drawOf e)) n
       ∙ ap (by (drawOf e)) (a ∙ (λ j. askFor (l j) (z j) s e)) ∙ event-by g s e
 
 -- the event of an ack is the ack: it is tested for 10 once

@@ -11,7 +11,7 @@ use Rattle.remy.specs.declared.action.Action.{Action}
 use Rattle.remy.specs.Action.{windowOf}
 use Rattle.remy.specs.Cube.{rootOf, containsOf}
 use Rattle.rule_tree.specs.declared.RuleTree.{RuleTree}
-use Rattle.rule_tree.specs.Nodes.{nodeAt}
+use Rattle.rule_tree.specs.Nodes.{nodeAt, actionIn}
 use Rattle.rule_tree.specs.Grown.{grownOf}
 use Rattle.rule_tree.specs.Walk.{leafOf}
 use Rattle.rule_tree.specs.declared.Looked.the-variants.{Found, Nothing}
@@ -35,7 +35,7 @@ inRoot t s from at = containsOf (rootOf (t .ends)) (pointOf (remembered s from a
 
 -- the action of the leaf that the point reaches
 abbrev pub leafAction : RuleTree → Sender → Time → Time → Action
-leafAction t s from at = nodeAt (t .nodes) (leafOf t (pointOf (remembered s from at))) .action
+leafAction t s from at = actionIn (nodeAt (t .nodes) (leafOf t (pointOf (remembered s from at))))
 
 -- nothing is pending, and the point is outside the root box
 pub record Outside (t : RuleTree) (s : Sender) (from at : Time) : Type 0 where

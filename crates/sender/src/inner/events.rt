@@ -50,7 +50,7 @@ pub fn taken(tree: RuleTree, s: Sender, e: Event) -> Reply
     let asked = ask_for(&children, root, s, e);
     let node = acks::node_of(asked) as usize;
     let x = tree.nodes[node];
-    let a = x.action;
+    let a = x.action();
     acks::answer(asked, a, draw_of(e))
 }
 

@@ -37,6 +37,9 @@ element-copy-out-x : tie.Need-element-copy-out-x
 element-copy-out-x c =
     law.node-below _ _ (ready (c .before .before .before)) _ _ (c .before .ask-for .ensures) (c .node-of .ensures)
 
+action-requires : tie.Need-action-requires
+action-requires c κs = search needs
+
 draw-of-requires : tie.Need-draw-of-requires
 draw-of-requires c κs = search needs
 
@@ -45,7 +48,7 @@ answer-requires c κs = search needs
 
 returns : tie.Need-returns
 returns c =
-    law.replied _ _ _ (c .before .before .before .before .before .before .before .before .before .before .pre) (c .before .before .before .before .before .before .before .children-of .ensures) (c .before .before .before .before .before .before .before .before .root .ensures) (c .before .before .before .before .before .ask-for .ensures) (c .before .before .before .before .node-of .ensures) (c .before .draw-of .ensures) (c .answer .ensures)
+    law.replied _ _ _ (c .before .before .before .before .before .before .before .before .before .before .pre) (c .before .before .before .before .before .before .before .children-of .ensures) (c .before .before .before .before .before .before .before .before .root .ensures) (c .before .before .before .before .before .ask-for .ensures) (c .before .before .before .before .node-of .ensures) (c .before .before .action .ensures) (c .before .draw-of .ensures) (c .answer .ensures)
 
 pub taken-spec : {M : Type 1} → statement M
 taken-spec =
@@ -58,6 +61,7 @@ taken-spec =
     cast-node
     mul-x
     element-copy-out-x
+    action-requires
     draw-of-requires
     answer-requires
     returns)
