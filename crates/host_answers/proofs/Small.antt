@@ -10,7 +10,7 @@ use lib.Ieee.{Float}
 use Rattle.remy.specs.declared.action.Action.{Action}
 use Rattle.rule_tree.specs.declared.Node.{Node}
 use Rattle.rule_tree.specs.declared.RuleTree.{RuleTree}
-use Rattle.rule_tree.specs.Nodes.{noNode, nodeAt}
+use Rattle.rule_tree.specs.Nodes.{noNode, nodeAt, actionIn, nodeHolding}
 use Rattle.rule_tree.specs.Change.{withNodes, withAction, withMark}
 use Rattle.rule_tree.proofs.Changing.{action-at}
 use Rattle.trainer.specs.declared.Trainer.{Trainer}
@@ -24,16 +24,16 @@ use Rattle.host_answers.specs.Parts.{beginOf, nextOf, finishedOf, keptAt
 
 -- ---- another action at the same leaf
 module _ (t : RuleTree) (i : ℕ) where
-  pub action-same : withAction t i (nodeAt (t .nodes) i .action) ≡ t
+  pub action-same : withAction t i (actionIn (nodeAt (t .nodes) i)) ≡ t
   action-same = ap (withNodes t) (set-getD (t .nodes) i noNode)
 
   module _ (l : i < length (t .nodes)) (a : Action) where
-    pub action-is : nodeAt (withAction t i a .nodes) i .action ≡ a
-    action-is = ap (λ (x : Node). x .action) (action-at t i a l)
+    pub action-is : actionIn (nodeAt (withAction t i a .nodes) i) ≡ a
+    action-is = ap actionIn (action-at t i a l)
 
     pub action-twice : (b : Action) → withAction (withAction t i a) i b ≡ withAction t i b
     action-twice b =
-        ap (λ (x : Node). withNodes t (set (withAction t i a .nodes) i (record { action = b; children = x .children; optimized = x .optimized }))) (action-at t i a l)
+        ap (λ (x : Node). withNodes t (set (withAction t i a .nodes) i (nodeHolding b (x .children) (x .optimized)))) (action-at t i a l)
         ∙ ap (withNodes t) (set-set (t .nodes) i _ _)
 
 module _ (t : Trainer) where

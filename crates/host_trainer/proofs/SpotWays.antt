@@ -5,13 +5,14 @@ use mathlib.Core.List.{List}
 use Prim.Native.Nat.{ℕ, _<_}
 use native.Mathlib.Omega.{arith}
 use lib.Ieee.Bits.{is-true}
+use Rattle.remy.specs.declared.action.Action.{Action}
 use Rattle.remy.specs.declared.point.Point.{Point}
 use Rattle.remy.specs.declared.cube.Cube.{Cube}
 use Rattle.remy.specs.Cube.{containsOf, rootOf, Whole}
 use Rattle.rule_tree.specs.declared.RuleTree.{RuleTree}
 use Rattle.rule_tree.specs.declared.Looked.{Looked}
 use Rattle.rule_tree.specs.declared.inner.walk.Reached.{Reached}
-use Rattle.rule_tree.specs.Nodes.{nodeAt, childrenOf}
+use Rattle.rule_tree.specs.Nodes.{nodeAt, childrenOf, actionIn}
 use Rattle.rule_tree.specs.Grown.{linksHold, grownOf}
 use Rattle.rule_tree.specs.Walk.{walkOf}
 use Rattle.rule_tree.specs.Calls.{foundIn}
@@ -45,13 +46,13 @@ module _ (cs : List ℕ) (root : Cube) (p : Point) where
 
 module _ (t : RuleTree) (p : Point) where
   abbrev At : Spot → Looked
-  At x = foundAt (x .inside) (nodeAt (t .nodes) (x .node) .action)
+  At x = foundAt (x .inside) (actionIn (nodeAt (t .nodes) (x .node)))
 
   found-by : (b : Bool) → containsOf (rootOf (t .ends)) p ≡ b → At (spotOf (childrenOf (t .nodes)) (rootOf (t .ends)) p) ≡ foundIn t p
   unfolding spotOf foundAt foundIn
   found-by true v = rw v
   found-by false v = rw v
 
-  pub spot-found : {cs : List ℕ} {root : Cube} {x : Spot} {r : Looked} → cs ≡ childrenOf (t .nodes) → root ≡ rootOf (t .ends)
-      → x ≡ spotOf cs root p → r ≡ foundAt (x .inside) (nodeAt (t .nodes) (x .node) .action) → r ≡ foundIn t p
-  spot-found l z e f = f ∙ ap At (e ∙ (λ j. spotOf (l j) (z j) p)) ∙ found-by (containsOf (rootOf (t .ends)) p) refl
+  pub spot-found : {cs : List ℕ} {root : Cube} {x : Spot} {a : Action} {r : Looked} → cs ≡ childrenOf (t .nodes) → root ≡ rootOf (t .ends)
+      → x ≡ spotOf cs root p → a ≡ actionIn (nodeAt (t .nodes) (x .node)) → r ≡ foundAt (x .inside) a → r ≡ foundIn t p
+  spot-found {x = x} l z e v f = f ∙ ap (foundAt (x .inside)) v ∙ ap At (e ∙ (λ j. spotOf (l j) (z j) p)) ∙ found-by (containsOf (rootOf (t .ends)) p) refl

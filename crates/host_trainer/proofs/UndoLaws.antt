@@ -12,7 +12,7 @@ use lib.ListN.{length}
 use Rattle.refusal.specs.Guards.{test, guarded}
 use Rattle.rule_tree.specs.declared.Node.{Node}
 use Rattle.rule_tree.specs.declared.RuleTree.{RuleTree}
-use Rattle.rule_tree.specs.Nodes.{nodeAt, nodeCount}
+use Rattle.rule_tree.specs.Nodes.{nodeAt, nodeCount, actionIn}
 use Rattle.rule_tree.specs.Grown.{grownOf}
 use Rattle.rule_tree.specs.Change.{undone}
 use Rattle.rule_tree.specs.Calls.{leafIn}
@@ -45,7 +45,7 @@ heldWith t leaf x =
     (cond (eqb (t .phase) 3) (tuning t && idle t)
     (cond (eqb (t .phase) 4) (tuning t && ((leaf && not (x .optimized)) && untried t))
     (cond (eqb (t .phase) 5)
-    (tuning t && ((leaf && not (x .optimized)) && (ltb (t .k) (length (candidatesOf (t .settings) (x .action))) && keptHolds t)))
+    (tuning t && ((leaf && not (x .optimized)) && (ltb (t .k) (length (candidatesOf (t .settings) (actionIn x))) && keptHolds t)))
     (cond (eqb (t .phase) 6 || eqb (t .phase) 7) (ending t) false))))
 
 held-is : (t : Trainer) (tree : RuleTree) → phaseHolds (withTree t tree) ≡ heldWith t (leafIn tree (t .leaf)) (nodeAt (tree .nodes) (t .leaf))
@@ -71,8 +71,8 @@ none-held : (t : Trainer) (x y : Node) (b : Bool) → heldWith t false x ≡ tru
 none-held t x y b e =
     by-phase (eqb (t .phase) 1 || eqb (t .phase) 2) (eqb (t .phase) 3) (eqb (t .phase) 4) (eqb (t .phase) 5) (splitting t) (tuning t && idle t)
     (cond (eqb (t .phase) 6 || eqb (t .phase) 7) (ending t) false) (tuning t) (not (x .optimized)) (not (y .optimized)) (untried t)
-    (ltb (t .k) (length (candidatesOf (t .settings) (x .action))) && keptHolds t)
-    (ltb (t .k) (length (candidatesOf (t .settings) (y .action))) && keptHolds t) b e
+    (ltb (t .k) (length (candidatesOf (t .settings) (actionIn x))) && keptHolds t)
+    (ltb (t .k) (length (candidatesOf (t .settings) (actionIn y))) && keptHolds t) b e
 
 still-held : (t : Trainer) (x y : Node) (a b : Bool) → (a ≡ true → b ≡ true) → (a ≡ true → y ≡ x) → heldWith t a x ≡ true → heldWith t b y ≡ true
 still-held t x y true b p q e = ap (λ (z : Node). heldWith t b z) (q refl) ∙ ap (λ (z : Bool). heldWith t z x) (p refl) ∙ e

@@ -10,7 +10,7 @@ use lib.Ieee.{Float, toBits}
 use Rattle.remy.specs.Cube as cube
 use Rattle.rule_tree.specs.declared.Node.{Node}
 use Rattle.rule_tree.specs.declared.RuleTree.{RuleTree}
-use Rattle.rule_tree.specs.Nodes.{nodeAt}
+use Rattle.rule_tree.specs.Nodes.{nodeAt, actionIn}
 use Rattle.rule_tree.specs.Grown.{grownOf}
 use Rattle.rule_tree.specs.Calls.{leafIn}
 use Rattle.rule_tree.proofs.Counting.{and-both}
@@ -85,7 +85,7 @@ module _ (s : Settings) (t : Tree) (v : ValidTree t) (i r : ℕ) where
       let x = embedIn s (embedTree t) i r (phase5 leaf best k kept) in
       let a = ruleAt t leaf .action in
       let e =
-      ap (λ (y : Node). length (candidatesOf s (y .action))) (leaf-node t v leaf (h .1 .0 .leaf)) ∙ sym (ap length (candidates-same s a)) in
+      ap (λ (y : Node). length (candidatesOf s (actionIn y))) (leaf-node t v leaf (h .1 .0 .leaf)) ∙ sym (ap length (candidates-same s a)) in
       let few = candidates-few s a in
       phase-is x
       ∙ and-both (tuning x) _ (tuning-holds x (h .0))

@@ -12,7 +12,7 @@ use Rattle.remy.specs.declared.action.Action.{Action}
 use Rattle.remy.specs.Cube as cube
 use Rattle.rule_tree.specs.declared.Node.{Node}
 use Rattle.rule_tree.specs.declared.RuleTree.{RuleTree}
-use Rattle.rule_tree.specs.Nodes.{nodeAt}
+use Rattle.rule_tree.specs.Nodes.{nodeAt, actionIn}
 use Rattle.rule_tree.specs.Change.{withAction}
 use Rattle.trainer.specs.declared.settings.Settings.{Settings}
 use Rattle.trainer.specs.declared.Trainer.{Trainer}
@@ -44,7 +44,7 @@ step-is t x = refl
 try-is :
     (t : Trainer) (q : RuleTree) (best : Float)
     → layer.tryFrom t q best
-    ≡ cond (eqb (length (candidatesOf (t .settings) (nodeAt (q .nodes) (t .leaf) .action))) 0) (layer.marked t q)
+    ≡ cond (eqb (length (candidatesOf (t .settings) (actionIn (nodeAt (q .nodes) (t .leaf))))) 0) (layer.marked t q)
     (trying (t .settings) q (t .stage) (t .round) (t .leaf) best 0 none cube.zero)
 unfolding layer.tryFrom
 try-is t q best = refl
@@ -106,7 +106,7 @@ module _ (x : Trainer) (u t : Tree) (p : Phase) (v : ValidTree t) (l : isLeaf t 
   unfolding keptNumber keptScore
   try-embeds best =
       try-is x (embedTree t) best
-      ∙ ap (λ (y : Node). cond (eqb (length (candidatesOf (x .settings) (y .action))) 0) (layer.marked x (embedTree t)) (trying (x .settings) (embedTree t) (x .stage) (x .round) (x .leaf) best 0 none cube.zero)) (leaf-node t v (x .leaf) l)
+      ∙ ap (λ (y : Node). cond (eqb (length (candidatesOf (x .settings) (actionIn y))) 0) (layer.marked x (embedTree t)) (trying (x .settings) (embedTree t) (x .stage) (x .round) (x .leaf) best 0 none cube.zero)) (leaf-node t v (x .leaf) l)
       ∙ ap (λ (xs : List Action). cond (eqb (length xs) 0) (layer.marked x (embedTree t)) (trying (x .settings) (embedTree t) (x .stage) (x .round) (x .leaf) best 0 none cube.zero))
       (sym (candidates-same (x .settings) (ruleAt t (x .leaf) .action)))
       ∙ go (eqb (length (candidates st t (x .leaf))) 0)
@@ -145,7 +145,7 @@ module _
   mine = its s t i r leaf best k kept
 
   action-is : leafAction mine ≡ ruleAt t leaf .action
-  action-is = ap (λ (y : Node). y .action) (leaf-node t v leaf l)
+  action-is = ap actionIn (leaf-node t v leaf l)
 
   after-embeds : (m : Kept) → Among (k + 1) m → layer.afterLast mine (keptNumber m) (keptScore m) ≡ embed (afterLast now leaf m)
   unfolding keptNumber keptScore

@@ -13,7 +13,7 @@ use Rattle.remy.specs.Action.{validOf}
 use Rattle.rule_tree.specs.declared.Node.{Node}
 use Rattle.rule_tree.specs.declared.RuleTree.{RuleTree}
 use Rattle.rule_tree.specs.Lists.{tabulate}
-use Rattle.rule_tree.specs.Nodes.{noNode, nodeAt, blankNode}
+use Rattle.rule_tree.specs.Nodes.{noNode, nodeAt, blankNode, nodeHolding}
 use Rattle.rule_tree.specs.Grown.{endsHold}
 use Rattle.rule_tree.proofs.Lists.{length-tabulate, getD-tabulate}
 use Rattle.rule_tree.proofs.Plain.{PointFits}
@@ -23,7 +23,7 @@ use Rattle.promise.proofs.Links.{link, link-owner, link-leaf}
 
 -- the node with a rule and a first child, 0 for a leaf
 abbrev pub nodeWith : Rule → ℕ → Node
-nodeWith r c = record { action = r .action; children = c; optimized = r .marked }
+nodeWith r c = nodeHolding (r .action) c (r .marked)
 
 abbrev pub leafNode : Rule → Node
 leafNode r = nodeWith r 0

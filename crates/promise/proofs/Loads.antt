@@ -9,7 +9,7 @@ use native.Mathlib.Omega.{arith}
 use borrow.Author.Tests.{ne-eqb}
 use lib.ListN.{length, getD}
 use lib.Seq.{getD-append-seam}
-use Rattle.rule_tree.specs.Nodes.{nodeAt}
+use Rattle.rule_tree.specs.Nodes.{nodeAt, nodeHolding}
 use Rattle.trainer.specs.declared.Trainer.{Trainer}
 use Rattle.trainer.specs.declared.Answered.{Answered}
 use Rattle.trainer.specs.State.{acceptedOf}
@@ -76,7 +76,7 @@ pub parents-given :
     (bytes : List ℕ) → loadOf bytes .refused ≡ 0 → versionAt bytes ≡ 1 → let t = loadOf bytes .trainer in
     (i : ℕ) → i < 513 → nodeAt (t .tree .nodes) i .children ≢ 0
     → nodeAt (t .tree .nodes) i
-    ≡ record { action = t .settings .«default_action»; children = nodeAt (t .tree .nodes) i .children; optimized = false }
+    ≡ nodeHolding (t .settings .«default_action») (nodeAt (t .tree .nodes) i .children) false
 parents-given bytes h v i l n =
     let t = loadOf bytes .trainer in
     let c = subst (λ (k : ℕ). Carried (layoutOf k) t) v (load-carried bytes h) in

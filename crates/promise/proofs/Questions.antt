@@ -5,6 +5,7 @@ use Prim.Native.Nat.{ℕ}
 use lib.ListN.{getD}
 use Rattle.remy.specs.declared.action.Action.{Action}
 use Rattle.rule_tree.specs.declared.Node.{Node}
+use Rattle.rule_tree.specs.Nodes.{actionIn}
 use Rattle.trainer.specs.declared.settings.Settings.{Settings}
 use Rattle.trainer.specs.declared.Trainer.{Trainer}
 use Rattle.trainer.specs.declared.Question.the-variants as declared
@@ -32,9 +33,9 @@ asked-in s t i r phase1 v h = refl
 asked-in s t i r phase2 v h = refl
 asked-in s t i r phase3 v h = refl
 asked-in s t i r (phase4 leaf) v h =
-    ap (λ (x : Node). declared.Score leaf (x .action) (progress (at s t i r (phase4 leaf)))) (leaf-node t v leaf (h .1 .leaf))
+    ap (λ (x : Node). declared.Score leaf (actionIn x) (progress (at s t i r (phase4 leaf)))) (leaf-node t v leaf (h .1 .leaf))
 asked-in s t i r (phase5 leaf best k kept) v h =
-    ap (λ (x : Node). declared.Score leaf (getD (candidatesOf s (x .action)) k noCandidate) (progress (at s t i r (phase5 leaf best k kept))))
+    ap (λ (x : Node). declared.Score leaf (getD (candidatesOf s (actionIn x)) k noCandidate) (progress (at s t i r (phase5 leaf best k kept))))
     (leaf-node t v leaf (h .1 .0 .leaf))
     ∙ ap (λ (a : Action). declared.Score leaf a (progress (at s t i r (phase5 leaf best k kept)))) (candidate-same s (ruleAt t leaf .action) k (h .1 .1 .below))
 asked-in s t i r phase6 v h = refl

@@ -10,7 +10,7 @@ use Rattle.floats.proofs.Bits.{read-fits}
 use Rattle.remy.specs.declared.action.Action.{Action}
 use Rattle.remy.specs.Cube.{usualEnds}
 use Rattle.rule_tree.specs.declared.Node.{Node}
-use Rattle.rule_tree.specs.Nodes.{noNode, nodeAt, nodeCount, blankNode}
+use Rattle.rule_tree.specs.Nodes.{noNode, nodeAt, nodeCount, blankNode, actionIn, nodeHolding}
 use Rattle.rule_tree.proofs.Lists.{length-tabulate, getD-tabulate}
 use Rattle.rule_tree.proofs.Links.{grown-valid}
 use Rattle.rule_tree.proofs.Plain.{ActionFits, PointFits}
@@ -31,10 +31,10 @@ use Rattle.promise.proofs.Fitting.{valid-fits}
 
 -- ---- the node that is read at a place
 abbrev carriedNode : List ℕ → ℕ → ℕ → Node
-carriedNode bytes at c = record { action = actionAt bytes at; children = c; optimized = flagAt bytes (at + 20) }
+carriedNode bytes at c = nodeHolding (actionAt bytes at) c (flagAt bytes (at + 20))
 
 abbrev givenNode : Action → ℕ → Node
-givenNode a c = record { action = a; children = c; optimized = false }
+givenNode a c = nodeHolding a c false
 
 -- a node that the layout does not carry is given the action a, unmarked
 given-node :
@@ -52,10 +52,10 @@ action-typed bytes at = record { multiplier = read-fits _; delay = read-fits _ }
 
 -- a node's action stands at its place or, where the layout does not carry it, at the settings' default
 node-action-typed :
-    (lay : Layout) (bytes : List ℕ) (at c : ℕ) → FitAction (nodeWith lay (givenAction (settingsAt bytes 5)) bytes at c .action)
+    (lay : Layout) (bytes : List ℕ) (at c : ℕ) → FitAction (actionIn (nodeWith lay (givenAction (settingsAt bytes 5)) bytes at c))
 node-action-typed lay bytes at c = go (carries lay c)
   where
-    go : (z : Bool) → FitAction (cond z (carriedNode bytes at c) (givenNode (givenAction (settingsAt bytes 5)) c) .action)
+    go : (z : Bool) → FitAction (actionIn (cond z (carriedNode bytes at c) (givenNode (givenAction (settingsAt bytes 5)) c)))
     go true = action-typed bytes at
     go false = action-typed bytes 98
 
@@ -83,14 +83,14 @@ module _ (lay : Layout) (bytes : List ℕ) where
   read-unused i l p =
       getD-tabulate 513 i (nodeAtPlace lay given bytes count) noNode l ∙ unused-is lay given bytes count i (ltb-false i (nodeCount count) p)
 
-  node-typed : acceptedOf (readIn lay bytes) ≡ true → (i : ℕ) → i < 513 → ActionFits (nodeAt (read .tree .nodes) i .action)
+  node-typed : acceptedOf (readIn lay bytes) ≡ true → (i : ℕ) → i < 513 → ActionFits (actionIn (nodeAt (read .tree .nodes) i))
   node-typed a i l = go (ltb i (nodeCount count)) refl
     where
-      go : (y : Bool) → ltb i (nodeCount count) ≡ y → ActionFits (nodeAt (read .tree .nodes) i .action)
+      go : (y : Bool) → ltb i (nodeCount count) ≡ y → ActionFits (actionIn (nodeAt (read .tree .nodes) i))
       go true p =
-          valid-fits (nodeAt (read .tree .nodes) i .action) (grown-valid (read .tree) (accepted-grown read a) i (ltb-true i (nodeCount count) p))
-          (subst (λ (n : Node). FitAction (n .action)) (sym (read-used i l p)) (node-action-typed lay bytes (place i) (child i)))
-      go false p = subst (λ (n : Node). ActionFits (n .action)) (sym (read-unused i l p)) plain-fits
+          valid-fits (actionIn (nodeAt (read .tree .nodes) i)) (grown-valid (read .tree) (accepted-grown read a) i (ltb-true i (nodeCount count) p))
+          (subst (λ (n : Node). FitAction (actionIn n)) (sym (read-used i l p)) (node-action-typed lay bytes (place i) (child i)))
+      go false p = subst (λ (n : Node). ActionFits (actionIn n)) (sym (read-unused i l p)) plain-fits
 
   ends-typed : PointFits (read .tree .ends)
   ends-typed = go (lay .ends)

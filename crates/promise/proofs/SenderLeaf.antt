@@ -15,7 +15,7 @@ use Rattle.remy.specs.Cube.{rootOf, containsOf, childCube}
 use Rattle.rule_tree.specs.declared.Node.{Node}
 use Rattle.rule_tree.specs.declared.Looked.{Looked}
 use Rattle.rule_tree.specs.declared.Looked.the-variants as looked
-use Rattle.rule_tree.specs.Nodes.{childrenOf}
+use Rattle.rule_tree.specs.Nodes.{childrenOf, actionIn}
 use Rattle.rule_tree.specs.Cubes.{splitNodes, cubeAt, cubeOf}
 use Rattle.rule_tree.specs.Walk.{leafOf}
 use Rattle.rule_tree.specs.Calls.{foundIn}
@@ -174,6 +174,6 @@ module _ (t : Tree) (v : ValidTree t) where
         go : (b : Bool) → containsOf (rootOf (t .ends)) p ≡ b → foundIn (embedTree t) p ≡ lookedAt t (leafAt t p)
         go true e =
             one-leaf e .found
-            ∙ ap (λ (x : Node). looked.Found (x .action)) (leaf-node t v (leafOf (embedTree t) p) (reached e .leaf))
+            ∙ ap (λ (x : Node). looked.Found (actionIn x)) (leaf-node t v (leafOf (embedTree t) p) (reached e .leaf))
             ∙ ap (lookedAt t) (sym (leaf-inside e))
         go false e = none e .nothing ∙ ap (lookedAt t) (sym (leaf-outside e))

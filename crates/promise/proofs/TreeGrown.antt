@@ -13,7 +13,7 @@ use lib.Seq.{ext-getD, getD-take, length-take-le}
 use Rattle.remy.specs.Action.{validOf}
 use Rattle.rule_tree.specs.declared.Node.{Node}
 use Rattle.rule_tree.specs.Lists.{occurrences}
-use Rattle.rule_tree.specs.Nodes.{nodeAt, childrenOf}
+use Rattle.rule_tree.specs.Nodes.{nodeAt, childrenOf, actionIn}
 use Rattle.rule_tree.specs.Grown.{linkHolds, plainOf, slotHolds, grownOf}
 use Rattle.rule_tree.specs.Cubes.{ownerBelow, splitNodes}
 use Rattle.rule_tree.proofs.Lists.{length-tabulate, getD-tabulate}
@@ -103,7 +103,7 @@ module _ (t : Tree) (v : ValidTree t) where
       go : (z : Bool) → ltb i (nodes t) ≡ z → slotHolds (nodeOf t i) z ≡ true
       go true p =
           let b = ltb-true i (nodes t) p in
-          slot-used (nodeOf t i) true refl ∙ ap (λ (x : Node). validOf (x .action)) (node-used t i b) ∙ v .actions i b
+          slot-used (nodeOf t i) true refl ∙ ap (λ (x : Node). validOf (actionIn x)) (node-used t i b) ∙ v .actions i b
       go false p =
           slot-unused (nodeOf t i) false refl ∙ ap plainOf (node-blank t i (ltb-false i (nodes t) p)) ∙ blank-plain
 

@@ -16,7 +16,7 @@ use Rattle.remy.specs.declared.point.Point.{Point}
 use Rattle.remy.specs.Cube as cube
 use Rattle.rule_tree.specs.declared.Node.{Node}
 use Rattle.rule_tree.specs.declared.RuleTree.{RuleTree}
-use Rattle.rule_tree.specs.Nodes.{noNode, nodeAt, leafWith, linkedTo, blankNode, nodeCount}
+use Rattle.rule_tree.specs.Nodes.{noNode, nodeAt, leafWith, linkedTo, blankNode, nodeCount, actionIn, nodeHolding}
 use Rattle.rule_tree.specs.Change.{freshTree, withAction, withMark, splitAt}
 use Rattle.rule_tree.proofs.Changing.{split-length, split-splits, split-ends, split-parent, split-child, split-other, fresh-length}
 use Rattle.promise.specs.PlainTree.{Tree, Rule, nodes, member, isLeaf, ruleAt, unmarked, rootLeaf, split, setAction, mark}
@@ -86,7 +86,7 @@ module _ (t : Tree) (i : ℕ) (v : ValidTree t) (l : isLeaf t i ≡ true) (r : l
       let c = leaf-below t i l in
       node-leaf (split t i) j (omega (arith, grown-nodes)) (member-old (t .splits) i j (λ e. absurd (omega arith)) ∙ new-unsplit t v j (omega arith))
       ∙ ap leafNode (new-rule t i v k b)
-      ∙ ap (λ (x : Node). leafWith (x .action)) (sym leaf-now)
+      ∙ ap (λ (x : Node). leafWith (actionIn x)) (sym leaf-now)
       ∙ sym (split-child old i (omega (arith, embed-length t)) k b)
 
   at-old :
@@ -161,14 +161,14 @@ module _ (t : Tree) (i : ℕ) (v : ValidTree t) (l : isLeaf t i ≡ true) where
   action-embeds a =
       stored-embeds t (setAction t i a) i v l refl refl _
       (ap leafNode (rule-stored (record { action = a; marked = ruleAt t i .marked }))
-      ∙ ap (λ (x : Node). record { action = a; children = x .children; optimized = x .optimized }) (sym leaf-held))
+      ∙ ap (λ (x : Node). nodeHolding a (x .children) (x .optimized)) (sym leaf-held))
       (λ j n. getD-set-other (t .rules) i j _ noRule n)
 
   pub mark-embeds : embedTree (mark t i) ≡ withMark (embedTree t) i
   mark-embeds =
       stored-embeds t (mark t i) i v l refl refl _
       (ap leafNode (rule-stored (record { action = ruleAt t i .action; marked = true }))
-      ∙ ap (λ (x : Node). record { action = x .action; children = x .children; optimized = true }) (sym leaf-held))
+      ∙ ap (λ (x : Node). nodeHolding (actionIn x) (x .children) true) (sym leaf-held))
       (λ j n. getD-set-other (t .rules) i j _ noRule n)
 
 -- ---- the root leaf

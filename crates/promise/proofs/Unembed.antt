@@ -10,7 +10,7 @@ use lib.Ieee.{Float, binary64, fits, toBits, ofBits, lt}
 use Rattle.floats.proofs.Bits.{bits-back}
 use Rattle.remy.specs.Cube as cube
 use Rattle.rule_tree.specs.declared.RuleTree.{RuleTree}
-use Rattle.rule_tree.specs.Nodes.{nodeAt}
+use Rattle.rule_tree.specs.Nodes.{nodeAt, actionIn}
 use Rattle.rule_tree.specs.Grown.{grownOf}
 use Rattle.rule_tree.specs.Calls.{leafIn}
 use Rattle.rule_tree.proofs.Counting.{and-left, and-right}
@@ -33,7 +33,7 @@ use Rattle.promise.proofs.UnembedTree.{plainTree, rule-back, leaf-back,
 -- the trainer's values are of their types, as those of every trainer that a program holds
 pub record TrainerFits (t : Trainer) : Type 0 where
   pub sized : length (t .tree .nodes) ≡ 513
-  pub nodes : (i : ℕ) → i < 513 → ActionFits (nodeAt (t .tree .nodes) i .action)
+  pub nodes : (i : ℕ) → i < 513 → ActionFits (actionIn (nodeAt (t .tree .nodes) i))
   pub ends : PointFits (t .tree .ends)
   pub settings : FitSettings (t .settings)
   pub best : T (fits binary64 (t .best))

@@ -14,7 +14,7 @@ use Rattle.remy.specs.Action.{validOf}
 use Rattle.rule_tree.specs.declared.Node.{Node}
 use Rattle.rule_tree.specs.declared.RuleTree.{RuleTree}
 use Rattle.rule_tree.specs.Lists.{tabulate}
-use Rattle.rule_tree.specs.Nodes.{nodeAt, noAction, blankNode, childrenOf, nodeCount}
+use Rattle.rule_tree.specs.Nodes.{nodeAt, noAction, blankNode, childrenOf, nodeCount, actionIn, nodeHolding}
 use Rattle.rule_tree.specs.Grown.{grownOf, plainOf}
 use Rattle.rule_tree.specs.Cubes.{ownerBelow, splitNodes}
 use Rattle.rule_tree.specs.Calls.{leafIn}
@@ -38,7 +38,7 @@ member-at (x ∷ xs) (suc j) l = or-right (eqb x (getD xs j 0)) (member (getD xs
 
 -- ---- the plain tree
 abbrev pub ruleOf : Node → Rule
-ruleOf x = record { action = x .action; marked = x .optimized }
+ruleOf x = record { action = actionIn x; marked = x .optimized }
 
 abbrev pub plainTree : RuleTree → Tree
 plainTree t =
@@ -49,12 +49,12 @@ plainTree t =
     }
 
 node-rebuilt :
-    (x : Node) (a : Action) (c : ℕ) (m : Bool) → x .action ≡ a → x .children ≡ c → x .optimized ≡ m
-    → _≡_ {A = Node} x (record { action = a; children = c; optimized = m })
-node-rebuilt x a c m p q r = λ j. record { action = p j; children = q j; optimized = r j }
+    (x : Node) (a : Action) (c : ℕ) (m : Bool) → actionIn x ≡ a → x .children ≡ c → x .optimized ≡ m
+    → _≡_ {A = Node} x (nodeHolding a c m)
+node-rebuilt x a c m p q r = λ j. nodeHolding (p j) (q j) (r j)
 
 -- a slot that is not in use
-unused-blank : (x : Node) → plainOf x ≡ true → ActionFits (x .action) → x .children ≡ 0 → x ≡ blankNode
+unused-blank : (x : Node) → plainOf x ≡ true → ActionFits (actionIn x) → x .children ≡ 0 → x ≡ blankNode
 unused-blank x h f e = node-rebuilt x noAction 0 false (plain-action x h f) e (plain-unmarked x h)
 
 module _ (t : RuleTree) (g : grownOf t ≡ true) where
@@ -169,7 +169,7 @@ module _ (t : RuleTree) (g : grownOf t ≡ true) (full : length (t .nodes) ≡ 5
       }
 
   -- ---- node by node
-  node-back : (i : ℕ) → i < 513 → ActionFits (nodeAt (t .nodes) i .action) → nodeOf (plainTree t) i ≡ nodeAt (t .nodes) i
+  node-back : (i : ℕ) → i < 513 → ActionFits (actionIn (nodeAt (t .nodes) i)) → nodeOf (plainTree t) i ≡ nodeAt (t .nodes) i
   node-back i b f = go (ltb i (nodes (plainTree t))) refl
     where
       x : Node
@@ -186,7 +186,7 @@ module _ (t : RuleTree) (g : grownOf t ≡ true) (full : length (t .nodes) ≡ 5
           let u : nodeCount (t .splits) ≤ i = omega (arith, nodes-count t g) in
           node-blank (plainTree t) i l ∙ sym (unused-blank x (grown-unused-plain t g i u b) f (grown-unused-leaf t g i u b))
 
-  pub tree-back : ((i : ℕ) → i < 513 → ActionFits (nodeAt (t .nodes) i .action)) → embedTree (plainTree t) ≡ t
+  pub tree-back : ((i : ℕ) → i < 513 → ActionFits (actionIn (nodeAt (t .nodes) i))) → embedTree (plainTree t) ≡ t
   tree-back f =
       tree-same (embedTree (plainTree t)) t
       (nodes-same (embedTree (plainTree t) .nodes) (t .nodes) (embed-length (plainTree t)) full

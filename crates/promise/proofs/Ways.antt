@@ -13,7 +13,7 @@ use Rattle.remy.specs.declared.cube.Cube.{Cube}
 use Rattle.remy.specs.Cube.{rootOf, containsOf}
 use Rattle.rule_tree.specs.declared.Node.{Node}
 use Rattle.rule_tree.specs.declared.RuleTree.{RuleTree}
-use Rattle.rule_tree.specs.Nodes.{nodeCount, isLeaf}
+use Rattle.rule_tree.specs.Nodes.{nodeCount, isLeaf, actionIn}
 use Rattle.rule_tree.specs.Grown.{grownOf}
 use Rattle.rule_tree.specs.Cubes.{cubeAt, cubeOf}
 use Rattle.rule_tree.specs.Walk.{leafOf}
@@ -74,7 +74,7 @@ tree-same t v =
       box = root-box (embedTree t);
       leaf = leaf-embeds t v;
       cube = λ i l. sym (cube-embeds t v i (leaf-below t i l));
-      action = λ i l. ap (λ (x : Node). x .action) (leaf-node t v i l);
+      action = λ i l. ap actionIn (leaf-node t v i l);
     }
 
 -- ---- senders

@@ -12,7 +12,7 @@ use Rattle.remy.specs.declared.point.Point.{Point}
 use Rattle.remy.specs.Cube.{rootOf, containsOf}
 use Rattle.rule_tree.specs.declared.RuleTree.{RuleTree}
 use Rattle.rule_tree.specs.declared.Looked.the-variants as looked
-use Rattle.rule_tree.specs.Nodes.{nodeAt}
+use Rattle.rule_tree.specs.Nodes.{nodeAt, actionIn}
 use Rattle.rule_tree.specs.Cubes.{cubeOf}
 use Rattle.rule_tree.specs.Calls.{leafIn, lookupOf}
 use Rattle.trainer.specs.declared.settings.Settings.{Settings}
@@ -107,7 +107,7 @@ pub record InLeaf (t : RuleTree) (p : Point) (i : ℕ) : Type 0 where
   pub leaf : leafIn t i ≡ true
   pub inside : containsOf (cubeOf t i) p ≡ true
   pub only : (j : ℕ) → leafIn t j ≡ true → containsOf (cubeOf t j) p ≡ true → j ≡ i
-  pub found : lookupOf t p ≡ looked.Found (nodeAt (t .nodes) i .action)
+  pub found : lookupOf t p ≡ looked.Found (actionIn (nodeAt (t .nodes) i))
 
 -- p lies in no leaf, and finds none
 pub record InNoLeaf (t : RuleTree) (p : Point) : Type 0 where
@@ -125,7 +125,7 @@ pub record SameTree (t : RuleTree) (u : Tree) : Type 0 where
   pub box : cubeOf t 0 ≡ rootOf (u .ends)
   pub leaf : (i : ℕ) → leafIn t i ≡ isLeaf u i
   pub cube : (i : ℕ) → isLeaf u i ≡ true → cubeOf t i ≡ cubeIn u i
-  pub action : (i : ℕ) → isLeaf u i ≡ true → nodeAt (t .nodes) i .action ≡ ruleAt u i .action
+  pub action : (i : ℕ) → isLeaf u i ≡ true → actionIn (nodeAt (t .nodes) i) ≡ ruleAt u i .action
 
 -- ---- a sender's calls: "Each ack is over any one of those trees", which it names by its place on the way
 abbrev pub callsOver : {T : Type 0} → (ℕ → T) → List (SenderCall ℕ) → List (SenderCall T)

@@ -58,7 +58,7 @@ module _ (lay : Layout) (a : Action) (bytes : List ℕ) (s : ℕ) (few : s ≤ 6
   unmarked-action i h =
       let l = ltb-true i (nodeCount s) (and-l (ltb i (nodeCount s)) _ h) in
       let z = eqb-true _ 0 (and-l (eqb (linkOf bytes (listPlace lay) s i) 0) _ (and-r (ltb i (nodeCount s)) _ h)) in
-      ap (λ (x : Node). actionIn x) (carried-read lay a bytes s few i l (leaf-carried lay (linkOf bytes (listPlace lay) s i) z))
+      ap actionIn (carried-read lay a bytes s few i l (leaf-carried lay (linkOf bytes (listPlace lay) s i) z))
 
 -- ---- the state that stands at a place
 -- what the phase does not ask: in 5, that best is no other NaN

@@ -11,7 +11,7 @@ use Rattle.remy.specs.declared.action.Action.{Action}
 use Rattle.remy.specs.Cube.{rootOf, containsOf}
 use Rattle.rule_tree.specs.declared.RuleTree.{RuleTree}
 use Rattle.rule_tree.specs.declared.Looked.{Looked}
-use Rattle.rule_tree.specs.Nodes.{nodeAt}
+use Rattle.rule_tree.specs.Nodes.{nodeAt, actionIn}
 use Rattle.rule_tree.specs.Grown.{grownOf}
 use Rattle.rule_tree.specs.Walk.{leafOf}
 use Rattle.rule_tree.specs.Calls.{foundIn}
@@ -52,14 +52,14 @@ module _ (P : Reply → ℕ → Type 0) (refused : (k : ℕ) → eqb k 0 ≡ fal
   -- at admitted moments: 22, 5
   pending-ways :
       (t : RuleTree) (m : Sender) (p : Pending) (draw : Draw)
-      → ((next : Pending) → P (settled m (actionUsed p (nodeAt (t .nodes) (leafOf t (pointOf m)) .action)) next) 0)
+      → ((next : Pending) → P (settled m (actionUsed p (actionIn (nodeAt (t .nodes) (leafOf t (pointOf m))))) next) 0)
       → P (ackPending t m p draw)
       (cond (repeats p || containsOf (rootOf (t .ends)) (pointOf m)) (cond (repeats p || drawHolds (m .«repeat_actions») draw) 0 5) 22)
   unfolding ackPending ackWith foundIn repeats actionUsed
   pending-ways t m (Repeat left a) draw q = q (repeatNext left a)
   pending-ways t m Idle draw q =
       both (λ (r : Looked) (k : ℕ). P (ackWith m r draw) k) (containsOf (rootOf (t .ends)) (pointOf m))
-      (drawn-ways m (nodeAt (t .nodes) (leafOf t (pointOf m)) .action) (m .«repeat_actions») draw q) (refused 22 refl)
+      (drawn-ways m (actionIn (nodeAt (t .nodes) (leafOf t (pointOf m)))) (m .«repeat_actions») draw q) (refused 22 refl)
 
   -- 1, 22, 5
   admitted-ways :
@@ -76,7 +76,7 @@ module _ (P : Reply → ℕ → Type 0) (refused : (k : ℕ) → eqb k 0 ≡ fal
       → ((next : Pending)
       → P
       (settled (remembered s (moment (readMoment sent)) (moment (readMoment received)))
-      (actionUsed (s .«next_change») (nodeAt (t .nodes) (leafOf t (ackPoint s sent received)) .action)) next) 0)
+      (actionUsed (s .«next_change») (actionIn (nodeAt (t .nodes) (leafOf t (ackPoint s sent received))))) next) 0)
       → P (ackOf t s sent received draw) (firstOf (ackOrder t s sent received draw))
   unfolding ackOf admitOf firstOf
   ack-ways t s sent received draw q =

@@ -12,7 +12,7 @@ use Rattle.remy.specs.declared.action.Action.{Action}
 use Rattle.remy.specs.Cube.{rootOf, containsOf}
 use Rattle.rule_tree.specs.declared.RuleTree.{RuleTree}
 use Rattle.rule_tree.specs.declared.Looked.{Looked}
-use Rattle.rule_tree.specs.Nodes.{nodeAt}
+use Rattle.rule_tree.specs.Nodes.{nodeAt, actionIn}
 use Rattle.rule_tree.specs.Grown.{grownOf}
 use Rattle.rule_tree.specs.Walk.{leafOf}
 use Rattle.rule_tree.specs.Calls.{foundIn}
@@ -82,7 +82,7 @@ unfolding ackPending ackWith foundIn repeats replyTold
 pending-number t m (Repeat left a) draw = refl
 pending-number t m Idle draw =
     next (λ (r : Looked). replyTold (ackWith m r draw) .number) (containsOf (rootOf (t .ends)) (pointOf m))
-    (drawn-number m (nodeAt (t .nodes) (leafOf t (pointOf m)) .action) (m .«repeat_actions») draw) refl
+    (drawn-number m (actionIn (nodeAt (t .nodes) (leafOf t (pointOf m)))) (m .«repeat_actions») draw) refl
 
 -- 1, 22, 5
 admitted-number :

@@ -25,7 +25,7 @@ use Rattle.rule_tree.specs.declared.Chosen.{Chosen}
 use Rattle.rule_tree.specs.declared.Chosen.the-variants as chosen
 use Rattle.rule_tree.specs.declared.Number.the-variants as numbers
 use Rattle.rule_tree.specs.declared.Compared.the-variants as compared
-use Rattle.rule_tree.specs.Nodes.{nodeAt, childrenOf, nodeCount}
+use Rattle.rule_tree.specs.Nodes.{nodeAt, childrenOf, nodeCount, actionIn}
 use Rattle.rule_tree.specs.Grown.{grownOf}
 use Rattle.rule_tree.specs.Walk.{leafOf, walkOf}
 use Rattle.rule_tree.specs.Counts.{eligible, better, mostUsed}
@@ -91,7 +91,7 @@ lookup-told t p = tells lookedTold looked.Refused _ (grownOrder t) (λ k. refl) 
 -- in a tree with one leaf's action replaced: that action at the leaf, elsewhere the leaf's own
 module _ (t : RuleTree) (leaf : ℕ) (a : Action) (p : Point) (l : leaf < length (t .nodes)) where
   replaced-in : (b : Bool) → containsOf (rootOf (t .ends)) p ≡ b → (z : Bool) → eqb (leafOf t p) leaf ≡ z
-      → lookedTold (foundIn (withAction t leaf a) p) ≡ told (cond b (value (cond z a (nodeAt (t .nodes) (leafOf t p) .action))) none)
+      → lookedTold (foundIn (withAction t leaf a) p) ≡ told (cond b (value (cond z a (actionIn (nodeAt (t .nodes) (leafOf t p))))) none)
   unfolding lookedTold foundIn
   replaced-in true h true e = ap lookedTold (sym (replaced-same t leaf a p (walkOf (childrenOf (t .nodes)) (rootOf (t .ends)) p) h refl l (eqb-true (leafOf t p) leaf e)))
   replaced-in true h false e = ap lookedTold (sym (replaced-other t leaf a p (walkOf (childrenOf (t .nodes)) (rootOf (t .ends)) p) h refl (eqb-false (leafOf t p) leaf e)))

@@ -19,7 +19,7 @@ use Rattle.rule_tree.specs.declared.AugmentedRuleTree.{AugmentedRuleTree}
 use Rattle.rule_tree.specs.declared.Chosen.{Chosen}
 use Rattle.rule_tree.specs.declared.Chosen.the-variants as chosen
 use Rattle.rule_tree.specs.Lists.{countBelow}
-use Rattle.rule_tree.specs.Nodes.{nodeAt, isLeaf}
+use Rattle.rule_tree.specs.Nodes.{nodeAt, isLeaf, actionIn}
 use Rattle.rule_tree.specs.Cubes.{cubeOf}
 use Rattle.rule_tree.specs.Walk.{leafOf}
 use Rattle.rule_tree.specs.Counts.{usedIn, mostUsed}
@@ -54,11 +54,11 @@ abbrev pub atLeaf : {A : Type 0} → RuleTree → Point → (ℕ → A) → Give
 atLeaf t p f = cond (containsOf (rootOf (t .ends)) p) (value (f (leafOf t p))) none
 
 abbrev pub lookupGives : RuleTree → Point → Given Action
-lookupGives t p = atLeaf t p (λ i. nodeAt (t .nodes) i .action)
+lookupGives t p = atLeaf t p (λ i. actionIn (nodeAt (t .nodes) i))
 
 -- "lookup through the tree with one leaf's action replaced"
 abbrev pub replacedGives : AugmentedRuleTree → Point → Given Action
-replacedGives a p = atLeaf (a .tree) p (λ i. cond (eqb i (a .leaf)) (a .action) (nodeAt (a .tree .nodes) i .action))
+replacedGives a p = atLeaf (a .tree) p (λ i. cond (eqb i (a .leaf)) (a .action) (actionIn (nodeAt (a .tree .nodes) i)))
 
 abbrev pub viewGives : List Node → ℕ → Action → Point → Given Action
 viewGives nodes leaf a p = replacedGives (record { tree = lentTree nodes; leaf = leaf; action = a }) p
@@ -126,7 +126,7 @@ actionUsed (Repeat left a) found = a
 -- the same window, from the action that the ack uses
 abbrev pub ackWindow : RuleTree → Sender → Float → Float → Given ℕ
 ackWindow t s sent received =
-    let a = actionUsed (s .«next_change») (nodeAt (t .nodes) (leafOf t (ackPoint s sent received)) .action) in
+    let a = actionUsed (s .«next_change») (actionIn (nodeAt (t .nodes) (leafOf t (ackPoint s sent received)))) in
     value (windowIn (s .«last_send») (windowOf a (s .window)))
 
 -- "so 0 after a send"

@@ -195,7 +195,7 @@ fn kind(out: &mut [u8], at: usize, x: Node) -> usize {
 
 // What a node is, without its cube.
 fn node(out: &mut [u8], at: usize, i: u16, x: Node) -> usize {
-    let a = x.action;
+    let a = x.action();
     let mark: u64 = if x.optimized { 1 } else { 0 };
     let next = output::decimal(out, at, i as u64);
     let next = kind(out, next, x);

@@ -183,7 +183,7 @@ module _ (t : RuleTree) where
   clear-leaves = links-leaves t (withoutMarks t .nodes) clear-links
 
   pub clear-action : (j : ℕ) → actionIn (nodeAt (withoutMarks t .nodes) j) ≡ actionIn (nodeAt (t .nodes) j)
-  clear-action j = ap (λ (x : Node). actionIn x) (clear-at j) ∙ unmarked-action (nodeAt (t .nodes) j)
+  clear-action j = ap actionIn (clear-at j) ∙ unmarked-action (nodeAt (t .nodes) j)
 
   pub clear-mark : (j : ℕ) → leafIn t j ≡ true → nodeAt (withoutMarks t .nodes) j .optimized ≡ false
   clear-mark j l = ap (λ (x : Node). x .optimized) (clear-at j ∙ sym (unmarked-leaf (nodeAt (t .nodes) j) (leaf-childless t j l)))

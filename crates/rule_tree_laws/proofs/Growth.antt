@@ -60,7 +60,7 @@ module _ (u : RuleTree) (g : Growth u) (i : ℕ) (l : i < nodeCount (u .splits))
         ends = d .ends;
         count = length-set (w .nodes) i _ ∙ d .count;
         at = getD-set-same (w .nodes) i _ noNode (omega (arith, d .count))
-            ∙ sym (rebuilt x _ _ true (sym (ap (λ (x : Node). actionIn x) (d .at))) (c ∙ sym (ap (λ (x : Node). x .children) (d .at))) o);
+            ∙ sym (rebuilt x _ _ true (sym (ap actionIn (d .at))) (c ∙ sym (ap (λ (x : Node). x .children) (d .at))) o);
         away = λ j n. getD-set-other (w .nodes) i j _ noNode n ∙ d .away j n;
       }
 

@@ -21,7 +21,7 @@ pub struct AugmentedView<'a> {
 
 // What the links tell of a lookup: the node whose action is the answer, or the answer.
 enum Told {
-    At(usize),
+    At(u16),
     Known(Looked),
 }
 
@@ -122,7 +122,7 @@ fn reached(links: &[u16; 513], s: u16, leaf: u16, action: Action, p: Point) -> T
             let found = Looked::Found(action);
             return Told::Known(found);
         }
-        return Told::At(node as usize);
+        return Told::At(node);
     }
     let none = Looked::Nothing;
     Told::Known(none)
@@ -155,7 +155,7 @@ fn place_of(told: Told) -> usize
     ensures { λ r. ⌜ r ≡ placeOf told ⌝ }
 {
     match told {
-        Told::At(i) => i,
+        Told::At(i) => i as usize,
         Told::Known(_) => 0,
     }
 }

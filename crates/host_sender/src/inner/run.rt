@@ -100,7 +100,7 @@ fn run(tree: RuleTree, s: Sender, list: &[u8], n: usize, out: &mut [u8]) -> Send
         let asked = ask_for(&children, root, left, e);
         let node = node_of(asked) as usize;
         let x = tree.nodes[node];
-        let a = x.action;
+        let a = x.action();
         let reply = answer(asked, a, draw_of(e));
         put_reply(out, 5 * i, reply);
         left = left_by(left, reply);

@@ -89,7 +89,7 @@ fn put_looks(out: &mut [u8], tree: RuleTree, points: &[u8], n: usize)
         let spot = seek(&children, root, p);
         let node = spot.node as usize;
         let x = tree.nodes[node];
-        let a = x.action;
+        let a = x.action();
         let found = found_at(spot.inside, a);
         put_found(out, 21 * i, found);
         i += 1;

@@ -34,9 +34,6 @@ returns c =
     let s = w .before .before .before .before .before in
     law.reached-same (now (s .args .links)) (s .args .leaf) (s .args .action) (s .args .p) _ (rooted (w .before .before .before)) (inside (w .before)) (w .walk .result) (w .walk .ensures) (c .if2 .taken)
 
-cast-t14 : tie.Need-cast-t14
-cast-t14 c = search needs
-
 returns-2 : tie.Need-returns-2
 returns-2 c =
     let w = c .before in
@@ -58,6 +55,5 @@ reached-spec =
     contains-requires
     walk-requires
     returns
-    cast-t14
     returns-2
     returns-3)

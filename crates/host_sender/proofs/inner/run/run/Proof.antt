@@ -76,6 +76,9 @@ element-copy-out-x : tie.Need-element-copy-out-x Inv-loop μ-loop
 element-copy-out-x c =
     asks.node-below _ _ (ready (c .before .before .before .before .before .before)) _ _ (c .before .ask-for .ensures) (c .node-of .ensures)
 
+action-requires : tie.Need-action-requires Inv-loop μ-loop
+action-requires c κs = search needs
+
 draw-of-requires : tie.Need-draw-of-requires Inv-loop μ-loop
 draw-of-requires c κs = search needs
 
@@ -103,7 +106,7 @@ loop-again c =
     let l = a .before .before .before .before .before .before .before .before .before .before in
     let s = l .before .before .before .before .before .before in
     let is =
-    asks.replied (s .args .t1) _ _ (s .pre .0) (l .before .children-of .ensures) (l .before .before .root .ensures) (a .before .before .before .before .before .ask-for .ensures) (a .before .before .before .before .node-of .ensures) (a .before .draw-of .ensures) (a .answer .ensures) in (
+    asks.replied (s .args .t1) _ _ (s .pre .0) (l .before .children-of .ensures) (l .before .before .root .ensures) (a .before .before .before .before .before .ask-for .ensures) (a .before .before .before .before .node-of .ensures) (a .before .before .action .ensures) (a .before .draw-of .ensures) (a .answer .ensures) in (
       omega (arith, c .before .before .before .before .before .before .before .before .before .before .before .before .before .before .loop-test .taken),
       c .before .before .before .put-reply .kept .0 ∙ l .loop .inv .1,
       (
@@ -141,6 +144,7 @@ run-spec =
     cast-node
     mul-x
     element-copy-out-x
+    action-requires
     draw-of-requires
     answer-requires
     mul-put-reply

@@ -71,6 +71,9 @@ mul-x c = search needs
 element-copy-out-x : tie.Need-element-copy-out-x Inv-loop μ-loop
 element-copy-out-x c = spot.spot-below _ _ _ (ready (c .before .before .before .before .before .before)) (c .before .seek .ensures)
 
+action-requires : tie.Need-action-requires Inv-loop μ-loop
+action-requires c κs = search needs
+
 found-at-requires : tie.Need-found-at-requires Inv-loop μ-loop
 found-at-requires c κs = search needs
 
@@ -97,7 +100,7 @@ loop-again c =
       omega (arith, c .before .before .before .before .before .before .before .before .before .before .before .before .loop-test .taken),
       c .before .before .put-found .kept .0 ∙ l .loop .inv .1,
       law.looks-turn (foundIn (s .args .t2)) (s .args .points .now) (s .args .out .now) (l .loop .i) (24 * l .loop .i + 24 - 24 * l .loop .i) (omega arith) (l .loop .inv .2) (c .before .before .before .before .before .before .before .before .before .before .point-of .ensures)
-          (spot.spot-found (s .args .t2) _ (l .before .children-of .ensures) (l .before .before .root .ensures) (c .before .before .before .before .before .before .before .before .seek .ensures) (c .before .before .before .before .found-at .ensures)) (c .before .before .put-found .ensures),
+          (spot.spot-found (s .args .t2) _ (l .before .children-of .ensures) (l .before .before .root .ensures) (c .before .before .before .before .before .before .before .before .seek .ensures) (c .before .before .before .before .before .action .ensures) (c .before .before .before .before .found-at .ensures)) (c .before .before .put-found .ensures),
     )
 
 same-length : tie.Need-same-length Inv-loop μ-loop
@@ -127,6 +130,7 @@ put-looks-spec =
     cast-node
     mul-x
     element-copy-out-x
+    action-requires
     found-at-requires
     mul-put-found
     put-found-requires
