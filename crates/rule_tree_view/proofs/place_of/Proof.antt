@@ -7,6 +7,9 @@ use Rattle.rule_tree_view.proofs.place_of.Tie as tie
 enum-known-told : tie.Need-enum-known-told
 enum-known-told c = search needs
 
+cast-result : tie.Need-cast-result
+cast-result c = search needs
+
 enum-told : tie.Need-enum-told
 enum-told c = search needs
 
@@ -19,4 +22,4 @@ unfolding placeOf
 returns-2 c = search needs
 
 pub place-of-spec : {M : Type 1} → statement M
-place-of-spec = tie.close (tie.spec enum-known-told enum-told returns returns-2)
+place-of-spec = tie.close (tie.spec enum-known-told cast-result enum-told returns returns-2)

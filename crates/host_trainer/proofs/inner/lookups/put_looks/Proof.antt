@@ -78,7 +78,9 @@ found-at-requires : tie.Need-found-at-requires Inv-loop μ-loop
 found-at-requires c κs = search needs
 
 mul-put-found : tie.Need-mul-put-found Inv-loop μ-loop
-mul-put-found c = search needs
+mul-put-found c =
+    let l = c .before .before .before .before .before .before .before .before .before in
+    omega (arith, l .before .before .before .before .before .before .before .pre, l .before .loop .inv, l .loop-test .taken)
 
 put-found-requires : tie.Need-put-found-requires Inv-loop μ-loop
 put-found-requires c κs =
