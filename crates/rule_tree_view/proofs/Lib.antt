@@ -7,5 +7,6 @@ pub mod NodeArray
 pub mod NodeParts
 pub mod OneLeaf
 pub mod Parents
+pub mod Sizes
 pub mod Telling
 pub mod Viewed
