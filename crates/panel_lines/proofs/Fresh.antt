@@ -75,7 +75,7 @@ module _ (s : Settings) (f : SettingsFits s) where
 
   started-fits : TrainerFits (started s)
   unfolding beginRound beginStage
-  started-fits = by (ltb 0 (s .rounds)) (ltb (s .«rule_splits») 1)
+  started-fits = by (ltb 0 (s .«optimization_rounds_per_split»)) (ltb (s .«rule_splits») 1)
     where
       by : (b d : Bool) → TrainerFits (cond b (stand s tree 3 0 0) (cond d (stand s tree 6 1 0) (stand s tree 1 1 0)))
       by true d = stand-fits 3 0 0 (omega arith) (omega arith)
@@ -84,7 +84,7 @@ module _ (s : Settings) (f : SettingsFits s) where
 
   started-tree : started s .tree ≡ tree
   unfolding beginRound beginStage
-  started-tree = by (ltb 0 (s .rounds)) (ltb (s .«rule_splits») 1)
+  started-tree = by (ltb 0 (s .«optimization_rounds_per_split»)) (ltb (s .«rule_splits») 1)
     where
       by : (b d : Bool) → cond b (stand s tree 3 0 0) (cond d (stand s tree 6 1 0) (stand s tree 1 1 0)) .tree ≡ tree
       by true d = refl

@@ -30,16 +30,16 @@ stage-embeds s t i = go (ltb (s .«rule_splits») i)
     go true = refl
     go false = refl
 
-round-is : (s : Settings) (t : RuleTree) (i r : ℕ) → layer.beginRound s t i r ≡ cond (ltb r (s .rounds)) (stand s t 3 i r) (layer.beginStage s t (i + 1))
+round-is : (s : Settings) (t : RuleTree) (i r : ℕ) → layer.beginRound s t i r ≡ cond (ltb r (s .«optimization_rounds_per_split»)) (stand s t 3 i r) (layer.beginStage s t (i + 1))
 unfolding layer.beginRound
 round-is s t i r = refl
 
-plain-round-is : (s : Settings) (t : Tree) (i r : ℕ) → beginRound s t i r ≡ cond (ltb r (s .rounds)) (at s t i r phase3) (beginLaterStage s t (i + 1))
+plain-round-is : (s : Settings) (t : Tree) (i r : ℕ) → beginRound s t i r ≡ cond (ltb r (s .«optimization_rounds_per_split»)) (at s t i r phase3) (beginLaterStage s t (i + 1))
 unfolding beginRound
 plain-round-is s t i r = refl
 
 pub round-embeds : (s : Settings) (t : Tree) (i r : ℕ) → layer.beginRound s (embedTree t) i r ≡ embed (beginRound s t i r)
-round-embeds s t i r = round-is s (embedTree t) i r ∙ go (ltb r (s .rounds)) ∙ ap embed (sym (plain-round-is s t i r))
+round-embeds s t i r = round-is s (embedTree t) i r ∙ go (ltb r (s .«optimization_rounds_per_split»)) ∙ ap embed (sym (plain-round-is s t i r))
   where
     go :
         (b : Bool)
@@ -68,10 +68,10 @@ module _ (s : Settings) (h : settingsHold s ≡ true) (t : Tree) (v : ValidTree 
           }
 
   pub round-valid : (i r : ℕ) → i ≤ s .«rule_splits» → ValidState (beginRound s t i r)
-  round-valid i r l = subst ValidState (sym (plain-round-is s t i r)) (go (ltb r (s .rounds)) refl)
+  round-valid i r l = subst ValidState (sym (plain-round-is s t i r)) (go (ltb r (s .«optimization_rounds_per_split»)) refl)
     where
-      go : (b : Bool) → ltb r (s .rounds) ≡ b → ValidState (cond b (at s t i r phase3) (beginLaterStage s t (i + 1)))
-      go true e = record { settings = h; tree = v; phase = record { stage = l; round = ltb-true r (s .rounds) e } }
+      go : (b : Bool) → ltb r (s .«optimization_rounds_per_split») ≡ b → ValidState (cond b (at s t i r phase3) (beginLaterStage s t (i + 1)))
+      go true e = record { settings = h; tree = v; phase = record { stage = l; round = ltb-true r (s .«optimization_rounds_per_split») e } }
       go false e = stage-valid i l
 
 -- ---- the start

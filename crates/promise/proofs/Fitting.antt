@@ -47,8 +47,8 @@ settings-fit s h f =
       multiplier = omega (arith, w .multiplier);
       min = valid-fits (s .«min_action») (w .least) (f .least);
       max = valid-fits (s .«max_action») (w .most) (f .most);
-      initial = valid-fits (s .«initial_change») (w .initial) (f .initial);
-      most = valid-fits (s .«max_change») (w .largest) (f .largest);
+      initial = valid-fits (s .«initial_action_change») (w .initial) (f .initial);
+      most = valid-fits (s .«max_action_change») (w .largest) (f .largest);
       default = valid-fits (s .«default_action») (w .default) (f .default);
     }
 

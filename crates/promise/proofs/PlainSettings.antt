@@ -32,8 +32,8 @@ actions-same s =
     rw (
       valid-same (s .«min_action»),
       valid-same (s .«max_action»),
-      valid-same (s .«initial_change»),
-      valid-same (s .«max_change»),
+      valid-same (s .«initial_action_change»),
+      valid-same (s .«max_action_change»),
       valid-same (s .«default_action»),
     )
 
@@ -45,11 +45,11 @@ module _ (s : Settings) where
   float-same :
       (part : Action → Float)
       → plain.floatAxis 9 part s
-      ≡ theirs.floatAxis 9 (ofInt binary64 (pos (s .multiplier))) (part (s .«initial_change»)) (part (s .«max_change»))
-  float-same part = float-axis 9 (ofInt binary64 (pos (s .multiplier))) (part (s .«initial_change»)) (part (s .«max_change»))
+      ≡ theirs.floatAxis 9 (ofInt binary64 (pos (s .«action_change_multiplier»))) (part (s .«initial_action_change»)) (part (s .«max_action_change»))
+  float-same part = float-axis 9 (ofInt binary64 (pos (s .«action_change_multiplier»))) (part (s .«initial_action_change»)) (part (s .«max_action_change»))
 
   whole-same : plain.wholeAxis 9 plain.incrementOf s ≡ theirs.incrementAxis 9 s
-  whole-same = whole-axis 9 (pos (s .multiplier)) (s .«initial_change» .«window_increment») (s .«max_change» .«window_increment»)
+  whole-same = whole-axis 9 (pos (s .«action_change_multiplier»)) (s .«initial_action_change» .«window_increment») (s .«max_action_change» .«window_increment»)
 
   axes-same : axesTaken s ≡ axesHold s
   unfolding axesTaken axesHold

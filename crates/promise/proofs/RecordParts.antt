@@ -28,9 +28,9 @@ five-fields row a b c d e k l m n o p q r s t =
 pub settings-part : (s : Settings) → settingsPart s ≡ settingsBytes s
 settings-part s =
     five-fields
-    (λ (xs : List ℕ). bytesOf 4 (s .«rule_splits») ++ (bytesOf 4 (s .rounds) ++ (bytesOf 4 (s .multiplier) ++ (flagByte (s .drill) ∷ xs))))
-    _ _ _ _ _ _ _ _ _ _ (action-part (s .«min_action»)) (action-part (s .«max_action»)) (action-part (s .«initial_change»))
-    (action-part (s .«max_change»)) (action-part (s .«default_action»))
+    (λ (xs : List ℕ). bytesOf 4 (s .«rule_splits») ++ (bytesOf 4 (s .«optimization_rounds_per_split») ++ (bytesOf 4 (s .«action_change_multiplier») ++ (flagByte (s .«drill_down») ∷ xs))))
+    _ _ _ _ _ _ _ _ _ _ (action-part (s .«min_action»)) (action-part (s .«max_action»)) (action-part (s .«initial_action_change»))
+    (action-part (s .«max_action_change»)) (action-part (s .«default_action»))
 
 pub numbers-part : (xs : List ℕ) → joined (map u16 xs) ≡ numbersBytes xs
 unfolding numbersBytes

@@ -41,8 +41,8 @@ module _ (s : Settings) (g : settingsHold s ≡ true) (t : Tree) (v : ValidTree 
   keeps1 : Splitting s i r → ValidState (answer1 (at s t i r phase1) xs .state)
   keeps1 h =
       split-keeps (at s t i r phase1) (record { settings = g; tree = v; phase = h }) xs
-      (λ u. cond (s .drill && leb (used xs) 1) (at s u i r phase2) (beginRound s u i r))
-      (λ u w. go u w (s .drill && leb (used xs) 1)) (mostUsed xs (leaves t)) refl
+      (λ u. cond (s .«drill_down» && leb (used xs) 1) (at s u i r phase2) (beginRound s u i r))
+      (λ u w. go u w (s .«drill_down» && leb (used xs) 1)) (mostUsed xs (leaves t)) refl
     where
       go : (u : Tree) → ValidTree u → (z : Bool) → ValidState (cond z (at s u i r phase2) (beginRound s u i r))
       go u w true = record { settings = g; tree = w; phase = h }

@@ -141,7 +141,7 @@ module _ (t : Trainer) where
   tuning-parts h =
       record {
         stage = leb-true (t .stage) (t .settings .«rule_splits») (and-left (leb (t .stage) (t .settings .«rule_splits»)) _ h);
-        round = ltb-true (t .round) (t .settings .rounds) (and-right (leb (t .stage) (t .settings .«rule_splits»)) _ h);
+        round = ltb-true (t .round) (t .settings .«optimization_rounds_per_split») (and-right (leb (t .stage) (t .settings .«rule_splits»)) _ h);
       }
 
   ending-parts : ending t ≡ true → Ending (t .settings) (t .stage) (t .round) × (idle t ≡ true)

@@ -43,8 +43,8 @@ actionPart a =
 abbrev pub settingsPart : Settings → List ℕ
 settingsPart s =
     joined
-    (u32 (s .«rule_splits») ∷ u32 (s .rounds) ∷ u32 (s .multiplier) ∷ flag (s .drill)
-    ∷ actionPart (s .«min_action») ∷ actionPart (s .«max_action») ∷ actionPart (s .«initial_change») ∷ actionPart (s .«max_change»)
+    (u32 (s .«rule_splits») ∷ u32 (s .«optimization_rounds_per_split») ∷ u32 (s .«action_change_multiplier») ∷ flag (s .«drill_down»)
+    ∷ actionPart (s .«min_action») ∷ actionPart (s .«max_action») ∷ actionPart (s .«initial_action_change») ∷ actionPart (s .«max_action_change»)
     ∷ actionPart (s .«default_action») ∷ [])
 
 -- "its action and mark byte"

@@ -43,7 +43,7 @@ beginLaterStage s t i = cond (ltb (s .«rule_splits») i) (at s t i 0 phase6) (a
 -- "Begin round: phase 3 if round < rounds, else begin stage i+1"
 unfoldable pub beginRound : Settings → Tree → ℕ → ℕ → State
 unfolding beginLaterStage
-beginRound s t i round = cond (ltb round (s .rounds)) (at s t i round phase3) (beginLaterStage s t (i + 1))
+beginRound s t i round = cond (ltb round (s .«optimization_rounds_per_split»)) (at s t i round phase3) (beginLaterStage s t (i + 1))
 
 -- "Start: default leaf, then begin stage 0", which no rule_splits is below: "i = 0 begin round"; the leaf is the usual root
 abbrev pub start : Settings → State
@@ -73,7 +73,7 @@ splitMostUsed st counts then = splitChosen st (mostUsed counts (leaves (st .tree
 abbrev pub answer1 : State → List ℕ → Outcome
 answer1 st counts =
     splitMostUsed st counts
-    (λ t. cond (st .settings .drill && leb (used counts) 1) (at (st .settings) t (st .stage) (st .round) phase2)
+    (λ t. cond (st .settings .«drill_down» && leb (used counts) 1) (at (st .settings) t (st .stage) (st .round) phase2)
     (beginRound (st .settings) t (st .stage) (st .round)))
 
 -- "2, counts: more than one above 0, begin round; else split the most used, stay"

@@ -18,8 +18,8 @@ pub record FitAction (a : Action) : Type 0 where
 pub record FitSettings (s : Settings) : Type 0 where
   pub least : FitAction (s .«min_action»)
   pub most : FitAction (s .«max_action»)
-  pub initial : FitAction (s .«initial_change»)
-  pub largest : FitAction (s .«max_change»)
+  pub initial : FitAction (s .«initial_action_change»)
+  pub largest : FitAction (s .«max_action_change»)
   pub default : FitAction (s .«default_action»)
 
 abbrev pub FitCall : Call → Type 0

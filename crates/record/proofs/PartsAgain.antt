@@ -35,8 +35,8 @@ use Rattle.record.proofs.NumbersAgain.{Bytes, drop-bytes, bytes-again, 
 pub record ActionsValid (s : Settings) : Type 0 where
   pub min : validOf (s .«min_action») ≡ true
   pub max : validOf (s .«max_action») ≡ true
-  pub initial : validOf (s .«initial_change») ≡ true
-  pub most : validOf (s .«max_change») ≡ true
+  pub initial : validOf (s .«initial_action_change») ≡ true
+  pub most : validOf (s .«max_action_change») ≡ true
   pub default : validOf (s .«default_action») ≡ true
 
 pub actions-valid : (s : Settings) → settingsHold s ≡ true → ActionsValid s
@@ -45,13 +45,13 @@ actions-valid s h =
     let v = and-l (actionsHold s) (changesHold s && axesHold s) (and-r (numbersHold s) (actionsHold s && (changesHold s && axesHold s)) h) in
     let v1 = and-r (validOf (s .«min_action»)) _ v in
     let v2 = and-r (validOf (s .«max_action»)) _ v1 in
-    let v3 = and-r (validOf (s .«initial_change»)) _ v2 in
+    let v3 = and-r (validOf (s .«initial_action_change»)) _ v2 in
     record {
       min = and-l (validOf (s .«min_action»)) _ v;
       max = and-l (validOf (s .«max_action»)) _ v1;
-      initial = and-l (validOf (s .«initial_change»)) _ v2;
-      most = and-l (validOf (s .«max_change»)) _ v3;
-      default = and-r (validOf (s .«max_change»)) _ v3;
+      initial = and-l (validOf (s .«initial_action_change»)) _ v2;
+      most = and-l (validOf (s .«max_action_change»)) _ v3;
+      default = and-r (validOf (s .«max_action_change»)) _ v3;
     }
 
 module _ (bytes : List ℕ) where
@@ -149,19 +149,19 @@ module _ (bytes : List ℕ) where
         let v = actions-valid s h in
         let m = actionBytes (s .«min_action») in
         let n = actionBytes (s .«max_action») in
-        let i = actionBytes (s .«initial_change») in
-        let j = actionBytes (s .«max_change») in
+        let i = actionBytes (s .«initial_action_change») in
+        let j = actionBytes (s .«max_action_change») in
         let d = actionBytes (s .«default_action») in
-        let w = flagByte (s .drill) ∷ [] in
+        let w = flagByte (s .«drill_down») ∷ [] in
         let h93 = action-stands (at + 93) (omega arith) (v .default) in
-        let h73 = then at 73 20 93 j d (action-count (s .«max_change»)) refl (action-stands (at + 73) (omega arith) (v .most)) h93 in
-        let h53 = then at 53 20 73 i (j ++ d) (action-count (s .«initial_change»)) refl (action-stands (at + 53) (omega arith) (v .initial)) h73 in
+        let h73 = then at 73 20 93 j d (action-count (s .«max_action_change»)) refl (action-stands (at + 73) (omega arith) (v .most)) h93 in
+        let h53 = then at 53 20 73 i (j ++ d) (action-count (s .«initial_action_change»)) refl (action-stands (at + 53) (omega arith) (v .initial)) h73 in
         let h33 = then at 33 20 53 n (i ++ (j ++ d)) (action-count (s .«max_action»)) refl (action-stands (at + 33) (omega arith) (v .max)) h53 in
         let h13 = then at 13 20 33 m (n ++ (i ++ (j ++ d))) (action-count (s .«min_action»)) refl (action-stands (at + 13) (omega arith) (v .min)) h33 in
         let h12 = then at 12 1 13 w (m ++ (n ++ (i ++ (j ++ d)))) refl refl (flag-stands (at + 12) (omega arith) f) h13 in
-        let h8 = then at 8 4 12 (bytesOf 4 (s .multiplier)) (w ++ (m ++ (n ++ (i ++ (j ++ d))))) (bytes-count 4 _) refl (number-stands-again (at + 8) 4 (omega arith)) h12 in
-        let h4 = then at 4 4 8 (bytesOf 4 (s .rounds)) (bytesOf 4 (s .multiplier) ++ (w ++ (m ++ (n ++ (i ++ (j ++ d)))))) (bytes-count 4 _) refl (number-stands-again (at + 4) 4 (omega arith)) h8 in
-        joined at 4 (bytesOf 4 (s .«rule_splits»)) (bytesOf 4 (s .rounds) ++ (bytesOf 4 (s .multiplier) ++ (w ++ (m ++ (n ++ (i ++ (j ++ d))))))) (bytes-count 4 _)
+        let h8 = then at 8 4 12 (bytesOf 4 (s .«action_change_multiplier»)) (w ++ (m ++ (n ++ (i ++ (j ++ d))))) (bytes-count 4 _) refl (number-stands-again (at + 8) 4 (omega arith)) h12 in
+        let h4 = then at 4 4 8 (bytesOf 4 (s .«optimization_rounds_per_split»)) (bytesOf 4 (s .«action_change_multiplier») ++ (w ++ (m ++ (n ++ (i ++ (j ++ d)))))) (bytes-count 4 _) refl (number-stands-again (at + 4) 4 (omega arith)) h8 in
+        joined at 4 (bytesOf 4 (s .«rule_splits»)) (bytesOf 4 (s .«optimization_rounds_per_split») ++ (bytesOf 4 (s .«action_change_multiplier») ++ (w ++ (m ++ (n ++ (i ++ (j ++ d))))))) (bytes-count 4 _)
         (number-stands-again at 4 (omega arith)) h4
 
     -- ---- a list of numbers

@@ -172,13 +172,13 @@ pub settings-read : (bytes : List ℕ) (at : ℕ) {a b c : ℕ} {d : Bool} {e f 
     → _≡_ {A = Settings}
     (record {
       «rule_splits» = a;
-      rounds = b;
-      multiplier = c;
-      drill = d;
+      «optimization_rounds_per_split» = b;
+      «action_change_multiplier» = c;
+      «drill_down» = d;
       «min_action» = e;
       «max_action» = f;
-      «initial_change» = g;
-      «max_change» = h;
+      «initial_action_change» = g;
+      «max_action_change» = h;
       «default_action» = k;
     })
     (settingsAt bytes at)
@@ -186,13 +186,13 @@ settings-read bytes at a b c d e f g h k =
     λ j.
     record {
       «rule_splits» = a j;
-      rounds = b j;
-      multiplier = c j;
-      drill = d j;
+      «optimization_rounds_per_split» = b j;
+      «action_change_multiplier» = c j;
+      «drill_down» = d j;
       «min_action» = e j;
       «max_action» = f j;
-      «initial_change» = g j;
-      «max_change» = h j;
+      «initial_action_change» = g j;
+      «max_action_change» = h j;
       «default_action» = k j;
     }
 

@@ -84,11 +84,11 @@ module _ (lay : Layout) (v : ℕ) (bytes : List ℕ) (all : Bytes bytes) (a : ac
   drill-in : flagAccepted bytes 17 ≡ true
   drill-in =
       let b = bytesOf 4 (t .settings .«rule_splits») in
-      let d = bytesOf 4 (t .settings .rounds) in
-      let e = bytesOf 4 (t .settings .multiplier) in
+      let d = bytesOf 4 (t .settings .«optimization_rounds_per_split») in
+      let e = bytesOf 4 (t .settings .«action_change_multiplier») in
       let h4 = next bytes 5 4 b (d ++ (e ++ _)) (bytes-count 4 _) settings-in in
       let h8 = onward bytes 5 4 4 8 d (e ++ _) (bytes-count 4 _) refl h4 in
-      flag-place bytes 17 (t .settings .drill) _ (onward bytes 5 8 4 12 e _ (bytes-count 4 _) refl h8)
+      flag-place bytes 17 (t .settings .«drill_down») _ (onward bytes 5 8 4 12 e _ (bytes-count 4 _) refl h8)
 
   mark-in : (i : ℕ) → i < nodeCount s → carriedAt lay bytes s i ≡ true → flagAccepted bytes (payloadPlace lay bytes s i + 20) ≡ true
   mark-in i l c =

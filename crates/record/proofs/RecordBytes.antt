@@ -57,9 +57,9 @@ small-action-then a h = small-join (actionBytes a) (small-action a) h
 
 small-settings : (s : Settings) → Small (settingsBytes s)
 small-settings s =
-    small-then 4 _ (small-then 4 _ (small-then 4 _ (small-flag (s .drill)
+    small-then 4 _ (small-then 4 _ (small-then 4 _ (small-flag (s .«drill_down»)
     (small-action-then (s .«min_action») (small-action-then (s .«max_action»)
-    (small-action-then (s .«initial_change») (small-action-then (s .«max_change»)
+    (small-action-then (s .«initial_action_change») (small-action-then (s .«max_action_change»)
     (small-action (s .«default_action»)))))))))
 
 small-list : (xs : List ℕ) → Small (numbersBytes xs)

@@ -60,7 +60,7 @@ module _ (s : Settings) (f : SettingsFits s) (t : RuleTree) (g : TreeFits t) whe
 
   round-fits : (i r : ℕ) → Fit (beginRound s t i r)
   unfolding beginRound
-  round-fits i r = either (ltb r (s .rounds)) _ _ (stand-fits 3 i r) (stage-fits (i + 1))
+  round-fits i r = either (ltb r (s .«optimization_rounds_per_split»)) _ _ (stand-fits 3 i r) (stage-fits (i + 1))
 
 module _ (t : Trainer) (f : Fit t) where
   -- ---- counts
@@ -71,7 +71,7 @@ module _ (t : Trainer) (f : Fit t) where
         let tree = splitMostUsed (t .tree) xs in
         let g = split-fits (t .tree) (f .tree) _ in
         answered (ltb (t .tree .splits) 64) _ _
-        (either (t .settings .drill && leb (usedIn xs) 1) _ _ (stand-fits (t .settings) (f .settings) tree g 2 (t .stage) 0)
+        (either (t .settings .«drill_down» && leb (usedIn xs) 1) _ _ (stand-fits (t .settings) (f .settings) tree g 2 (t .stage) 0)
         (round-fits (t .settings) (f .settings) tree g (t .stage) 0))
         f
 

@@ -57,7 +57,7 @@ phaseAccepted phase = leb 1 phase && leb phase 7
 unfoldable pub stageAccepted : Settings → ℕ → ℕ → ℕ → Bool
 stageAccepted s phase stage round =
     cond (leb phase 2) (leb 1 stage && (leb stage (s .«rule_splits») && eqb round 0))
-    (cond (leb phase 5) (leb stage (s .«rule_splits») && ltb round (s .rounds))
+    (cond (leb phase 5) (leb stage (s .«rule_splits») && ltb round (s .«optimization_rounds_per_split»))
     (eqb stage (s .«rule_splits» + 1) && eqb round 0))
 
 -- "in 4, 5 an unmarked leaf"; "Fields a phase doesn't use are 0"

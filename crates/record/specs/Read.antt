@@ -22,13 +22,13 @@ abbrev pub settingsAt : List ℕ → ℕ → Settings
 settingsAt bytes at =
     record {
       «rule_splits» = numberAt bytes at 4;
-      rounds = numberAt bytes (at + 4) 4;
-      multiplier = numberAt bytes (at + 8) 4;
-      drill = flagAt bytes (at + 12);
+      «optimization_rounds_per_split» = numberAt bytes (at + 4) 4;
+      «action_change_multiplier» = numberAt bytes (at + 8) 4;
+      «drill_down» = flagAt bytes (at + 12);
       «min_action» = actionAt bytes (at + 13);
       «max_action» = actionAt bytes (at + 33);
-      «initial_change» = actionAt bytes (at + 53);
-      «max_change» = actionAt bytes (at + 73);
+      «initial_action_change» = actionAt bytes (at + 53);
+      «max_action_change» = actionAt bytes (at + 73);
       «default_action» = actionAt bytes (at + 93);
     }
 

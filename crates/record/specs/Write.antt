@@ -17,9 +17,9 @@ use Rattle.wire.specs.Fields.{floatBytes, actionBytes, pointBytes}
 -- "u32 splits, rounds, multiplier; drill byte; five actions in the order above"
 abbrev pub settingsBytes : Settings → List ℕ
 settingsBytes s =
-    bytesOf 4 (s .«rule_splits») ++ (bytesOf 4 (s .rounds) ++ (bytesOf 4 (s .multiplier) ++ (flagByte (s .drill) ∷ (
-    actionBytes (s .«min_action») ++ (actionBytes (s .«max_action») ++ (actionBytes (s .«initial_change») ++ (
-    actionBytes (s .«max_change») ++ actionBytes (s .«default_action»))))))))
+    bytesOf 4 (s .«rule_splits») ++ (bytesOf 4 (s .«optimization_rounds_per_split») ++ (bytesOf 4 (s .«action_change_multiplier») ++ (flagByte (s .«drill_down») ∷ (
+    actionBytes (s .«min_action») ++ (actionBytes (s .«max_action») ++ (actionBytes (s .«initial_action_change») ++ (
+    actionBytes (s .«max_action_change») ++ actionBytes (s .«default_action»))))))))
 
 -- "each split's node u16"
 unfoldable pub numbersBytes : List ℕ → List ℕ

@@ -14,13 +14,13 @@ fn action(multiplier: f64, increment: i32, delay: f64) -> Action {
 fn usual() -> Settings {
     Settings {
         rule_splits: 12,
-        rounds: 2,
-        multiplier: 4,
-        drill: true,
+        optimization_rounds_per_split: 2,
+        action_change_multiplier: 4,
+        drill_down: true,
         min_action: action(0.0, 0, 0.25),
         max_action: action(1.0, 256, 3.0),
-        initial_change: action(0.01, 1, 0.05),
-        max_change: action(0.5, 32, 1.0),
+        initial_action_change: action(0.01, 1, 0.05),
+        max_action_change: action(0.5, 32, 1.0),
         default_action: action(1.0, 1, 3.0),
     }
 }

@@ -42,8 +42,8 @@ pub settings-read : (ws : List ℕ) {a b c : ℕ} {d : Bool} {e f g h k : Action
       drill = d;
       «min_action» = e;
       «max_action» = f;
-      «initial_change» = g;
-      «max_change» = h;
+      «initial_action_change» = g;
+      «max_action_change» = h;
       «default_action» = k;
     })
     (settings ws)
@@ -56,8 +56,8 @@ settings-read ws a b c d e f g h k =
       drill = d j;
       «min_action» = e j;
       «max_action» = f j;
-      «initial_change» = g j;
-      «max_change» = h j;
+      «initial_action_change» = g j;
+      «max_action_change» = h j;
       «default_action» = k j;
     }
 

@@ -51,8 +51,8 @@ settings ws =
       drill = eqb (word ws 3) 1;
       «min_action» = action ws 4;
       «max_action» = action ws 7;
-      «initial_change» = action ws 10;
-      «max_change» = action ws 13;
+      «initial_action_change» = action ws 10;
+      «max_action_change» = action ws 13;
       «default_action» = action ws 16;
     }
 

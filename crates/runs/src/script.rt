@@ -63,23 +63,23 @@ pub(crate) fn settings(ws: &[u64]) -> Settings
     ensures { λ r. ⌜ r ≡ spec.settings (now (ws .entry)) ⌝ }
 {
     let rule_splits = number(ws, 0);
-    let rounds = number(ws, 1);
-    let multiplier = number(ws, 2);
-    let drill = word(ws, 3) == 1;
+    let optimization_rounds_per_split = number(ws, 1);
+    let action_change_multiplier = number(ws, 2);
+    let drill_down = word(ws, 3) == 1;
     let min_action = action(ws, 4);
     let max_action = action(ws, 7);
-    let initial_change = action(ws, 10);
-    let max_change = action(ws, 13);
+    let initial_action_change = action(ws, 10);
+    let max_action_change = action(ws, 13);
     let default_action = action(ws, 16);
     Settings {
         rule_splits,
-        rounds,
-        multiplier,
-        drill,
+        optimization_rounds_per_split,
+        action_change_multiplier,
+        drill_down,
         min_action,
         max_action,
-        initial_change,
-        max_change,
+        initial_action_change,
+        max_action_change,
         default_action,
     }
 }

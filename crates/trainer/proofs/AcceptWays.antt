@@ -133,7 +133,7 @@ module _ (t : Trainer) where
   unfolding splittingIn splitting
   splitting-is = refl
 
-  pub tuning-is : tuningIn (t .stage) (t .settings .«rule_splits») (t .round) (t .settings .rounds) ≡ tuning t
+  pub tuning-is : tuningIn (t .stage) (t .settings .«rule_splits») (t .round) (t .settings .«optimization_rounds_per_split») ≡ tuning t
   unfolding tuningIn tuning
   tuning-is = refl
 

@@ -27,16 +27,16 @@ use Rattle.trainer.proofs.Holds.{and-left, and-right, parts}
 use Rattle.trainer.proofs.AcceptWays.{byPhase, phase-is, accepted-is, phase-ask, phase-try}
 
 -- ---- settings
-numbers-parts : (s : Settings) → numbersHold s ≡ true → (s .«rule_splits» ≤ 64) × (s .rounds ≤ 1000)
+numbers-parts : (s : Settings) → numbersHold s ≡ true → (s .«rule_splits» ≤ 64) × (s .«optimization_rounds_per_split» ≤ 1000)
 unfolding numbersHold
 numbers-parts s h =
     let r = and-right (leb (s .«rule_splits») 64) _ h in
-    (leb-true (s .«rule_splits») 64 (and-left (leb (s .«rule_splits») 64) _ h), leb-true (s .rounds) 1000 (and-left (leb (s .rounds) 1000) _ r))
+    (leb-true (s .«rule_splits») 64 (and-left (leb (s .«rule_splits») 64) _ h), leb-true (s .«optimization_rounds_per_split») 1000 (and-left (leb (s .«optimization_rounds_per_split») 1000) _ r))
 
 pub few-splits : (s : Settings) → settingsHold s ≡ true → s .«rule_splits» ≤ 64
 few-splits s h = numbers-parts s (parts s h .0) .0
 
-pub few-rounds : (s : Settings) → settingsHold s ≡ true → s .rounds ≤ 1000
+pub few-rounds : (s : Settings) → settingsHold s ≡ true → s .«optimization_rounds_per_split» ≤ 1000
 few-rounds s h = numbers-parts s (parts s h .0) .1
 
 -- ---- stage and round, phase by phase
@@ -57,7 +57,7 @@ module _ (t : Trainer) (s : settingsHold (t .settings) ≡ true) where
   unfolding tuning
   tuning-bounded h =
       let l = leb-true (t .stage) (t .settings .«rule_splits») (and-left (leb (t .stage) (t .settings .«rule_splits»)) _ h) in
-      let r = ltb-true (t .round) (t .settings .rounds) (and-right (leb (t .stage) (t .settings .«rule_splits»)) _ h) in
+      let r = ltb-true (t .round) (t .settings .«optimization_rounds_per_split») (and-right (leb (t .stage) (t .settings .«rule_splits»)) _ h) in
       (omega (arith, few-splits (t .settings) s), omega (arith, few-rounds (t .settings) s))
 
   ending-bounded : ending t ≡ true → Bounded t

@@ -61,15 +61,15 @@ pub held-sound : (t : Trainer) → Held t → Sound (t .tree)
 held-sound t a = record { grown = accepted-grown t (a .accepted); whole = a .whole }
 
 -- ---- stage and round
-tuning-from : (t : Trainer) → t .stage ≤ t .settings .«rule_splits» → t .round < t .settings .rounds → tuning t ≡ true
+tuning-from : (t : Trainer) → t .stage ≤ t .settings .«rule_splits» → t .round < t .settings .«optimization_rounds_per_split» → tuning t ≡ true
 unfolding tuning
-tuning-from t a b = rw (le-leb (t .stage) (t .settings .«rule_splits») a, lt-ltb (t .round) (t .settings .rounds) b)
+tuning-from t a b = rw (le-leb (t .stage) (t .settings .«rule_splits») a, lt-ltb (t .round) (t .settings .«optimization_rounds_per_split») b)
 
-pub tuning-parts : (t : Trainer) → tuning t ≡ true → (t .stage ≤ t .settings .«rule_splits») × (t .round < t .settings .rounds)
+pub tuning-parts : (t : Trainer) → tuning t ≡ true → (t .stage ≤ t .settings .«rule_splits») × (t .round < t .settings .«optimization_rounds_per_split»)
 unfolding tuning
 tuning-parts t h = (
   leb-true (t .stage) (t .settings .«rule_splits») (and-left (leb (t .stage) (t .settings .«rule_splits»)) _ h),
-  ltb-true (t .round) (t .settings .rounds) (and-right (leb (t .stage) (t .settings .«rule_splits»)) _ h),
+  ltb-true (t .round) (t .settings .«optimization_rounds_per_split») (and-right (leb (t .stage) (t .settings .«rule_splits»)) _ h),
 )
 
 splitting-from : (t : Trainer) → 1 ≤ t .stage → t .stage ≤ t .settings .«rule_splits» → t .round ≡ 0 → idle t ≡ true → splitting t ≡ true
@@ -112,7 +112,7 @@ module _ (s : Settings) (t : RuleTree) (h : settingsHold s ≡ true) (g : Sound 
   stand-two : (i : ℕ) → 1 ≤ i → i ≤ s .«rule_splits» → Held (stand s t 2 i 0)
   stand-two i a b = made (stand s t 2 i 0) h g (phase-is (stand s t 2 i 0) ∙ splitting-from (stand s t 2 i 0) a b refl (stand-idle 2 i 0))
 
-  stand-three : (i r : ℕ) → i ≤ s .«rule_splits» → r < s .rounds → Held (stand s t 3 i r)
+  stand-three : (i r : ℕ) → i ≤ s .«rule_splits» → r < s .«optimization_rounds_per_split» → Held (stand s t 3 i r)
   stand-three i r a b =
       made (stand s t 3 i r) h g
       (phase-is (stand s t 3 i r)
@@ -124,7 +124,7 @@ module _ (s : Settings) (t : RuleTree) (h : settingsHold s ≡ true) (g : Sound 
   stand-seven : (i : ℕ) → i ≡ s .«rule_splits» + 1 → Held (stand s t 7 i 0)
   stand-seven i a = made (stand s t 7 i 0) h g (phase-is (stand s t 7 i 0) ∙ ending-from (stand s t 7 i 0) a refl (stand-idle 7 i 0))
 
-  leaf-held : (i r l : ℕ) → i ≤ s .«rule_splits» → r < s .rounds → leafHoldsIn t l ≡ true → Held (atLeaf s t i r l)
+  leaf-held : (i r l : ℕ) → i ≤ s .«rule_splits» → r < s .«optimization_rounds_per_split» → leafHoldsIn t l ≡ true → Held (atLeaf s t i r l)
   leaf-held i r l a b u =
       let x = atLeaf s t i r l in
       made x h g
@@ -133,7 +133,7 @@ module _ (s : Settings) (t : RuleTree) (h : settingsHold s ≡ true) (g : Sound 
       (and-both (leafHolds x) (untried x) (sym (leaf-is x) ∙ u) (leaf-untried i r l)))
 
   try-held :
-      (i r l : ℕ) (best : Float) (k kept : ℕ) (score : Float) → i ≤ s .«rule_splits» → r < s .rounds → leafHoldsIn t l ≡ true
+      (i r l : ℕ) (best : Float) (k kept : ℕ) (score : Float) → i ≤ s .«rule_splits» → r < s .«optimization_rounds_per_split» → leafHoldsIn t l ≡ true
       → k < length (candidatesOf s (actionAt t l)) → keptIn best k kept score ≡ true → Held (trying s t i r l best k kept score)
   unfolding tryHolds
   try-held i r l best k kept score a b u n m =
@@ -154,10 +154,10 @@ module _ (s : Settings) (t : RuleTree) (h : settingsHold s ≡ true) (g : Sound 
 
   round-held : (i r : ℕ) → i ≤ s .«rule_splits» → Held (beginRound s t i r)
   unfolding beginRound
-  round-held i r a = go (ltb r (s .rounds)) refl
+  round-held i r a = go (ltb r (s .«optimization_rounds_per_split»)) refl
     where
-      go : (c : Bool) → ltb r (s .rounds) ≡ c → Held (cond c (stand s t 3 i r) (beginStage s t (i + 1)))
-      go true e = stand-three i r a (ltb-true r (s .rounds) e)
+      go : (c : Bool) → ltb r (s .«optimization_rounds_per_split») ≡ c → Held (cond c (stand s t 3 i r) (beginStage s t (i + 1)))
+      go true e = stand-three i r a (ltb-true r (s .«optimization_rounds_per_split») e)
       go false e = stage-held (i + 1) (omega arith) (omega arith)
 
 -- ---- a start
@@ -166,8 +166,8 @@ unfolding actionsHold
 default-valid s h =
     let i = and-right (validOf (s .«min_action»)) _ h in
     let j = and-right (validOf (s .«max_action»)) _ i in
-    let k = and-right (validOf (s .«initial_change»)) _ j in
-    and-right (validOf (s .«max_change»)) (validOf (s .«default_action»)) k
+    let k = and-right (validOf (s .«initial_action_change»)) _ j in
+    and-right (validOf (s .«max_action_change»)) (validOf (s .«default_action»)) k
 
 pub start-held : (s : Settings) → settingsHold s ≡ true → Held (started s)
 start-held s h =
@@ -214,11 +214,11 @@ module _ (t : Trainer) (a : Held t) (xs : List ℕ) (c : countsHold (t .tree) xs
             → Held
             (cond b
             (taken
-            (cond (t .settings .drill && leb (usedIn xs) 1) (stand (t .settings) (splitMostUsed (t .tree) xs) 2 (t .stage) 0)
+            (cond (t .settings .«drill_down» && leb (usedIn xs) 1) (stand (t .settings) (splitMostUsed (t .tree) xs) 2 (t .stage) 0)
             (beginRound (t .settings) (splitMostUsed (t .tree) xs) (t .stage) 0)))
             (refuse 20 t)
             .trainer)
-        go true e = once (t .settings .drill && leb (usedIn xs) 1) (ltb-true (t .tree .splits) 64 e)
+        go true e = once (t .settings .«drill_down» && leb (usedIn xs) 1) (ltb-true (t .tree .splits) 64 e)
         go false e = a
 
     two-held : Held (phase2 t xs .trainer)
@@ -236,7 +236,7 @@ module _ (t : Trainer) (a : Held t) (xs : List ℕ) (c : countsHold (t .tree) xs
         go false false e = a
 
   module _ (p : t .phase ≡ 3) where
-    tunes : (t .stage ≤ t .settings .«rule_splits») × (t .round < t .settings .rounds)
+    tunes : (t .stage ≤ t .settings .«rule_splits») × (t .round < t .settings .«optimization_rounds_per_split»)
     tunes = tuning-parts t (and-left (tuning t) (idle t) (phase-choose (t .phase) _ _ _ _ _ p ∙ accepted-phase t (a .accepted)))
 
     next-held : Held (nextRound t)
@@ -305,7 +305,7 @@ counts-held t xs a = go (acceptedOf t) (wantsCounts (t .phase)) (countsHold (t .
 record AtLeaf (t : Trainer) : Type 0 where
   set : settingsHold (t .settings) ≡ true
   stage : t .stage ≤ t .settings .«rule_splits»
-  round : t .round < t .settings .rounds
+  round : t .round < t .settings .«optimization_rounds_per_split»
 
 module _ (t : Trainer) (x : AtLeaf t) where
   marked-held : (tree : RuleTree) → Sound tree → leafHoldsIn tree (t .leaf) ≡ true → Held (marked t tree)

@@ -178,13 +178,13 @@ pub same-candidates : (s : Settings) (a : Action) (splits rounds : ℕ) (drill :
     → candidatesOf
     (record {
       «rule_splits» = splits;
-      rounds = rounds;
-      multiplier = s .multiplier;
-      drill = drill;
+      «optimization_rounds_per_split» = rounds;
+      «action_change_multiplier» = s .«action_change_multiplier»;
+      «drill_down» = drill;
       «min_action» = s .«min_action»;
       «max_action» = s .«max_action»;
-      «initial_change» = s .«initial_change»;
-      «max_change» = s .«max_change»;
+      «initial_action_change» = s .«initial_action_change»;
+      «max_action_change» = s .«max_action_change»;
       «default_action» = default;
     }) a
     ≡ candidatesOf s a

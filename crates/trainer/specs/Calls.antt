@@ -28,13 +28,13 @@ abbrev pub blankSettings : Settings
 blankSettings =
     record {
       «rule_splits» = 0;
-      rounds = 0;
-      multiplier = 0;
-      drill = false;
+      «optimization_rounds_per_split» = 0;
+      «action_change_multiplier» = 0;
+      «drill_down» = false;
       «min_action» = noAction;
       «max_action» = noAction;
-      «initial_change» = noAction;
-      «max_change» = noAction;
+      «initial_action_change» = noAction;
+      «max_action_change» = noAction;
       «default_action» = noAction;
     }
 

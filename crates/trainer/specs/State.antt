@@ -105,7 +105,7 @@ splitting t = leb 1 (t .stage) && (leb (t .stage) (t .settings .«rule_splits»)
 
 -- "stage <= rule_splits, round < rounds in 3 to 5"
 unfoldable pub tuning : Trainer → Bool
-tuning t = leb (t .stage) (t .settings .«rule_splits») && ltb (t .round) (t .settings .rounds)
+tuning t = leb (t .stage) (t .settings .«rule_splits») && ltb (t .round) (t .settings .«optimization_rounds_per_split»)
 
 -- "stage rule_splits+1, round 0 in 6, 7"
 unfoldable pub ending : Trainer → Bool

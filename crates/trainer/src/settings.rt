@@ -6,13 +6,13 @@ use remy::action::Action;
 
 pub struct Settings {
     pub rule_splits: u32,
-    pub rounds: u32,
-    pub multiplier: u32,
-    pub drill: bool,
+    pub optimization_rounds_per_split: u32,
+    pub action_change_multiplier: u32,
+    pub drill_down: bool,
     pub min_action: Action,
     pub max_action: Action,
-    pub initial_change: Action,
-    pub max_change: Action,
+    pub initial_action_change: Action,
+    pub max_action_change: Action,
     pub default_action: Action,
 }
 

@@ -29,11 +29,11 @@ fn put_numbers(buf: &mut [u8], at: usize, s: Settings)
     requires { ⌜ at + 13 ≤ length (now buf) ⌝ }
     ensures { λ _. ⌜ now (buf .exit) ≡ sets (now (buf .entry)) at (numberFields s) ⌝ }
 {
-    let drill = flag_of(s.drill);
+    let drill_down = flag_of(s.drill_down);
     put(buf, at, 4, s.rule_splits as u64);
-    put(buf, at + 4, 4, s.rounds as u64);
-    put(buf, at + 8, 4, s.multiplier as u64);
-    buf[at + 12] = drill;
+    put(buf, at + 4, 4, s.optimization_rounds_per_split as u64);
+    put(buf, at + 8, 4, s.action_change_multiplier as u64);
+    buf[at + 12] = drill_down;
 }
 
 // The settings' five actions.
@@ -43,8 +43,8 @@ fn put_actions(buf: &mut [u8], at: usize, s: Settings)
 {
     let min = s.min_action;
     let max = s.max_action;
-    let initial = s.initial_change;
-    let most = s.max_change;
+    let initial = s.initial_action_change;
+    let most = s.max_action_change;
     let default = s.default_action;
     put_action(buf, at, min);
     put_action(buf, at + 20, max);

@@ -31,8 +31,8 @@ pub fn numbers_hold(s: Settings) -> bool
     ensures { λ r. ⌜ r ≡ numbersHold s ⌝ }
 {
     if s.rule_splits <= 64 {
-        if s.rounds <= 1000 {
-            return 2 <= s.multiplier && s.multiplier <= 16;
+        if s.optimization_rounds_per_split <= 1000 {
+            return 2 <= s.action_change_multiplier && s.action_change_multiplier <= 16;
         }
     }
     false
@@ -43,8 +43,8 @@ pub fn actions_hold(s: Settings) -> bool
 {
     let min = s.min_action;
     let max = s.max_action;
-    let initial = s.initial_change;
-    let most = s.max_change;
+    let initial = s.initial_action_change;
+    let most = s.max_action_change;
     let default = s.default_action;
     if min.valid() {
         if max.valid() {
@@ -61,8 +61,8 @@ pub fn actions_hold(s: Settings) -> bool
 pub fn changes_hold(s: Settings) -> bool
     ensures { λ r. ⌜ r ≡ changesHold s ⌝ }
 {
-    let initial = s.initial_change;
-    let most = s.max_change;
+    let initial = s.initial_action_change;
+    let most = s.max_action_change;
     if 0.0 < initial.window_multiplier {
         if 0 < initial.window_increment {
             if 0.0 < initial.intersend_delay.0 {
@@ -112,12 +112,12 @@ pub fn axes_hold(s: Settings) -> bool
     requires { ⌜ (numbersHold s ≡ true) × (changesHold s ≡ true) ⌝ }
     ensures { λ r. ⌜ r ≡ axesHold s ⌝ }
 {
-    let initial = s.initial_change;
-    let most = s.max_change;
-    let times = s.multiplier as f64;
+    let initial = s.initial_action_change;
+    let most = s.max_action_change;
+    let times = s.action_change_multiplier as f64;
     if floats_end(times, initial.window_multiplier, most.window_multiplier) {
         if wholes_end(
-            s.multiplier,
+            s.action_change_multiplier,
             initial.window_increment,
             most.window_increment,
         ) {
@@ -213,12 +213,12 @@ fn kept_wholes(times: u32, first: i32, max: i32, at: i32, low: i32, high: i32) -
 pub fn multiplier_sums(s: Settings, a: Action) -> FloatSums
     ensures { λ r. ⌜ HoldsFloats r (multiplierSums s a) ⌝ }
 {
-    let initial = s.initial_change;
-    let most = s.max_change;
+    let initial = s.initial_action_change;
+    let most = s.max_action_change;
     let min = s.min_action;
     let max = s.max_action;
     kept_floats(
-        s.multiplier as f64,
+        s.action_change_multiplier as f64,
         initial.window_multiplier,
         most.window_multiplier,
         a.window_multiplier,
@@ -231,12 +231,12 @@ pub fn increment_sums(s: Settings, a: Action) -> WholeSums
     requires { ⌜ (settingsHold s ≡ true) × (validOf a ≡ true) ⌝ }
     ensures { λ r. ⌜ HoldsWholes r (incrementSums s a) ⌝ }
 {
-    let initial = s.initial_change;
-    let most = s.max_change;
+    let initial = s.initial_action_change;
+    let most = s.max_action_change;
     let min = s.min_action;
     let max = s.max_action;
     kept_wholes(
-        s.multiplier,
+        s.action_change_multiplier,
         initial.window_increment,
         most.window_increment,
         a.window_increment,
@@ -248,12 +248,12 @@ pub fn increment_sums(s: Settings, a: Action) -> WholeSums
 pub fn delay_sums(s: Settings, a: Action) -> FloatSums
     ensures { λ r. ⌜ HoldsFloats r (delaySums s a) ⌝ }
 {
-    let initial = s.initial_change;
-    let most = s.max_change;
+    let initial = s.initial_action_change;
+    let most = s.max_action_change;
     let min = s.min_action;
     let max = s.max_action;
     kept_floats(
-        s.multiplier as f64,
+        s.action_change_multiplier as f64,
         initial.intersend_delay.0,
         most.intersend_delay.0,
         a.intersend_delay.0,
