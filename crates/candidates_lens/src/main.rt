@@ -11,7 +11,11 @@ fn action(multiplier: f64, increment: i32, milliseconds: f64) -> Action {
 }
 
 // The settings of the Rust's default trainer, but for what is handed in.
-fn settings(action_change_multiplier: u32, initial_action_change: Action, max_action_change: Action) -> Settings {
+fn settings(
+    action_change_multiplier: u32,
+    initial_action_change: Action,
+    max_action_change: Action,
+) -> Settings {
     let min_action = action(0.0, 0, 0.25);
     let max_action = action(1.0, 256, 3.0);
     let default_action = action(1.0, 1, 3.0);

@@ -106,7 +106,12 @@ fn tunes_leaf(t: Trainer) -> bool
     ensures { λ r. ⌜ r ≡ (tuning t && leafHolds t) ⌝ }
 {
     let s = t.settings;
-    if tunes_now(t.stage, s.rule_splits, t.round, s.optimization_rounds_per_split) {
+    if tunes_now(
+        t.stage,
+        s.rule_splits,
+        t.round,
+        s.optimization_rounds_per_split,
+    ) {
         let tree = t.tree;
         return leaf::unmarked_leaf(tree, t.leaf);
     }
@@ -158,7 +163,13 @@ fn phase_holds(t: Trainer) -> bool
     let waits = at_no_leaf(t.leaf, t.best, t.k, t.kept, t.kept_score);
     match phase {
         1 | 2 => splits_now(t.stage, s.rule_splits, t.round, waits),
-        3 => chooses_now(t.stage, s.rule_splits, t.round, s.optimization_rounds_per_split, waits),
+        3 => chooses_now(
+            t.stage,
+            s.rule_splits,
+            t.round,
+            s.optimization_rounds_per_split,
+            waits,
+        ),
         4 => asks_leaf(t),
         5 => tries_leaf(t),
         6 | 7 => ends_now(t.stage, s.rule_splits, t.round, waits),
