@@ -9,7 +9,7 @@ use lib.Ieee.Bits.{is-true}
 use lib.Ieee.Fits.{and-l, and-r, and-i}
 use denote.Floats.{passes}
 use Rattle.floats.specs.Interval.{End}
-use Rattle.floats.proofs.Order.{or-r, le-le-trans, lt-le-trans}
+use Rattle.floats.proofs.Order.{or-l, or-r, le-le-trans, lt-le-trans}
 use Rattle.floats.proofs.Same.{equal-same}
 use Rattle.floats.proofs.Zero.{Some, between-some, add-mono-some, add-min}
 use Rattle.remy.specs.declared.point.Point.{Point}
@@ -89,6 +89,19 @@ above-zero-strictly y k = lt-le-trans cubes.zero leastEnd y tt (and-l (le leastE
 equal-end : (x : Float) → T (endAdmitted x) → (z : Float) → T (fits binary64 z) → T (fits binary64 x) → T (eq z x) → z ≡ x
 equal-end x h z f g e = equal-same binary64 z x f g (above-zero-strictly z (equal-admitted x h z e)) (above-zero-strictly x h) e
 
+beq-self : (s : Bool) → T (Bool·beq s s)
+beq-self true = tt
+beq-self false = tt
+
+end-itself : (x : Float) → T (endAdmitted x) → T (eq x x)
+unfolding eq le lt
+end-itself nan h = absurd h
+end-itself (inf s) h = beq-self s
+end-itself (fin s m e) h =
+    and-i (eqb (m * up e * down e) (m * up e * down e)) (Bool·beq s s || eqb (m * up e * down e) 0)
+    (passes (eqb (m * up e * down e) (m * up e * down e)) (eq-eqb (m * up e * down e) (m * up e * down e) refl))
+    (or-l (Bool·beq s s) (eqb (m * up e * down e) 0) (beq-self s))
+
 -- ---- the three axes
 pub record Admitted (e : Point) : Type 0 where
   pub acks : T (endAdmitted (ack e))
@@ -148,6 +161,15 @@ same-ends e u f g p h =
   where
     rebuilt : ack e ≡ ack u → send e ≡ send u → ratio e ≡ ratio u → e ≡ u
     rebuilt p q r = λ j. cubes.pointOf (p j) (q j) (r j)
+
+-- admitted ends equal themselves
+pub ends-themselves : (e : Point) → endsAdmitted e ≡ true → pointEqual e e ≡ true
+unfolding pointEqual
+ends-themselves e h =
+    let a = admitted-axes e h in
+    is-true (pointEqual e e)
+    (and-i (eq (ack e) (ack e)) (eq (send e) (send e) && eq (ratio e) (ratio e)) (end-itself (ack e) (a .acks))
+    (and-i (eq (send e) (send e)) (eq (ratio e) (ratio e)) (end-itself (send e) (a .sends)) (end-itself (ratio e) (a .ratios))))
 
 pub usual-admitted : endsAdmitted usualEnds ≡ true
 unfolding endsAdmitted le

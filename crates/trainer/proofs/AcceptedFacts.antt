@@ -20,7 +20,7 @@ use Rattle.trainer.specs.declared.settings.Settings.{Settings}
 use Rattle.trainer.specs.declared.Trainer.{Trainer}
 use Rattle.trainer.specs.Settings.{numbersHold, settingsHold}
 use Rattle.trainer.specs.Candidates.{candidatesOf}
-use Rattle.trainer.specs.State.{none, zeroBits, keptIn, keptHolds, untried, idle, leafAction, leafHolds, tryHolds, splitting, tuning, ending, phaseHolds, acceptedOf}
+use Rattle.trainer.specs.State.{none, zeroBits, keptIn, keptHolds, untried, idle, leafAction, leafHolds, tryHolds, splitting, tuning, ending, boxHolds, phaseHolds, acceptedOf}
 use Rattle.trainer.specs.Calls.{wantsScore}
 use Rattle.trainer.specs.Fields.{Counting, Scoring, Kept}
 use Rattle.trainer.proofs.Holds.{and-left, and-right, parts}
@@ -87,22 +87,28 @@ phase-cases p a b c d e h i j k l m =
 
 -- ---- an accepted trainer
 module _ (t : Trainer) (h : acceptedOf t ≡ true) where
-  all : settingsHold (t .settings) && (grownOf (t .tree) && phaseHolds t) ≡ true
+  all : settingsHold (t .settings) && (grownOf (t .tree) && (boxHolds t && phaseHolds t)) ≡ true
   all = sym (accepted-is t) ∙ h
 
   pub accepted-settings : settingsHold (t .settings) ≡ true
-  accepted-settings = and-left (settingsHold (t .settings)) (grownOf (t .tree) && phaseHolds t) all
+  accepted-settings = and-left (settingsHold (t .settings)) (grownOf (t .tree) && (boxHolds t && phaseHolds t)) all
 
-  rest : grownOf (t .tree) && phaseHolds t ≡ true
-  rest = and-right (settingsHold (t .settings)) (grownOf (t .tree) && phaseHolds t) all
+  rest : grownOf (t .tree) && (boxHolds t && phaseHolds t) ≡ true
+  rest = and-right (settingsHold (t .settings)) (grownOf (t .tree) && (boxHolds t && phaseHolds t)) all
+
+  boxed : boxHolds t && phaseHolds t ≡ true
+  boxed = and-right (grownOf (t .tree)) (boxHolds t && phaseHolds t) rest
 
   pub accepted-grown : grownOf (t .tree) ≡ true
-  accepted-grown = and-left (grownOf (t .tree)) (phaseHolds t) rest
+  accepted-grown = and-left (grownOf (t .tree)) (boxHolds t && phaseHolds t) rest
+
+  pub accepted-box : boxHolds t ≡ true
+  accepted-box = and-left (boxHolds t) (phaseHolds t) boxed
 
   pub accepted-phase :
       byPhase (t .phase) (splitting t) (tuning t && idle t) (tuning t && (leafHolds t && untried t)) (tuning t && (leafHolds t && tryHolds t)) (ending t)
       ≡ true
-  accepted-phase = sym (phase-is t) ∙ and-right (grownOf (t .tree)) (phaseHolds t) rest
+  accepted-phase = sym (phase-is t) ∙ and-right (boxHolds t) (phaseHolds t) boxed
 
   pub accepted-few : t .tree .splits ≤ 64
   accepted-few = grown-facts (t .tree) accepted-grown .few

@@ -12,53 +12,59 @@ use lib.Ieee.{Float, toBits, lt, le}
 use Rattle.remy.specs.declared.action.Action.{Action}
 use Rattle.remy.specs.Action.{validOf}
 use Rattle.remy.specs.Cube as cube
+use Rattle.remy.proofs.Ends.{ends-themselves}
+use Rattle.rule_tree.proofs.Plain.{ends-admitted}
 use Rattle.rule_tree.specs.declared.Node.{Node}
 use Rattle.rule_tree.specs.declared.RuleTree.{RuleTree}
 use Rattle.rule_tree.specs.declared.Chosen.{Chosen}
 use Rattle.rule_tree.specs.declared.Chosen.the-variants.{Leaf, Nobody, Refused}
 use Rattle.rule_tree.specs.Lists.{total}
 use Rattle.rule_tree.specs.Nodes.{nodeAt}
-use Rattle.rule_tree.specs.Change.{freshTree, withAction, withMark, withoutMarks}
+use Rattle.rule_tree.specs.Change.{freshTree, withAction, withMark, withoutMarks, splitAt}
 use Rattle.rule_tree.specs.Counts.{countsHold, usedIn}
 use Rattle.rule_tree.specs.Grown.{grownOf}
 use Rattle.rule_tree.specs.Calls.{leafIn}
 use Rattle.rule_tree.proofs.Counting.{and-both, most-used-leaf, eligible-plain}
 use Rattle.rule_tree.proofs.GrownTree.{chosen-leaf, chosen-found}
-use Rattle.rule_tree.proofs.Changing.{action-length, action-at, action-leaves, action-grown, mark-length, mark-grown, clear-length, clear-grown, fresh-length, fresh-grown, usual-ends, split-length, split-grown}
+use Rattle.rule_tree.proofs.Changing.{action-length, action-at, action-leaves, action-grown, mark-length, mark-grown, clear-length, clear-grown, fresh-length, fresh-grown, split-length, split-grown}
 use Rattle.trainer.specs.declared.settings.Settings.{Settings}
 use Rattle.trainer.specs.declared.Trainer.{Trainer}
 use Rattle.trainer.specs.Settings.{actionsHold, settingsHold}
 use Rattle.trainer.specs.Candidates.{candidatesOf, noCandidate}
-use Rattle.trainer.specs.State.{none, stand, atLeaf, trying, zeroBits, untriedIn, untried, idle, keptIn, keptHolds, leafAction, leafHolds, tryHolds, splitting, tuning, ending, phaseHolds, acceptedOf}
+use Rattle.trainer.specs.State.{none, stand, atLeaf, trying, zeroBits, untriedIn, untried, idle, keptIn, keptHolds, leafAction, leafHolds, tryHolds, splitting, tuning, ending, boxHolds, phaseHolds, acceptedOf}
 use Rattle.trainer.specs.Phases.{refuse, taken, beginStage, beginRound, mostUsedIn, chosenLeaf, splitMostUsed, phase1, phase2, nextRound, tuneNext, phase3, phase6, marked, tryFrom, keeps, afterLast, tried, phase5}
 use Rattle.trainer.specs.Calls.{started, wantsCounts, wantsScore, countsStep, answerCountsOf, scoreStep, answerScoreOf}
 use Rattle.trainer.specs.Fields.{actionAt, leafHoldsIn, Kept, Scoring}
 use Rattle.trainer.proofs.Holds.{and-left, and-right, parts}
 use Rattle.trainer.proofs.CandidateLaws.{candidate-valid, candidates-few}
 use Rattle.trainer.proofs.AcceptWays.{above, accepted-is, phase-is, phase-split, phase-choose, phase-end, leaf-is}
-use Rattle.trainer.proofs.AcceptedFacts.{accepted-settings, accepted-grown, accepted-phase, asking-tunes, trying-tunes, asking-leaf, trying-leaf, try-holds, scoring-try, leaf-whole, k-listed, kept-listed, score-five}
+use Rattle.trainer.proofs.AcceptedFacts.{accepted-settings, accepted-grown, accepted-box, accepted-phase, asking-tunes, trying-tunes, asking-leaf, trying-leaf, try-holds, scoring-try, leaf-whole, k-listed, kept-listed, score-five}
 use Rattle.trainer.proofs.Steps.{kept-some}
 
--- a tree of 513 slots, as every tree of the code is
-pub record Sound (t : RuleTree) : Type 0 where
+-- a tree of 513 slots, as every tree of the code is, with the settings' upper ends
+pub record Sound (s : Settings) (t : RuleTree) : Type 0 where
   pub grown : grownOf t ≡ true
+  pub box : cube.pointEqual (t .ends) (s .ends) ≡ true
   pub whole : length (t .nodes) ≡ 513
 
 pub record Held (t : Trainer) : Type 0 where
   pub accepted : acceptedOf t ≡ true
   pub whole : length (t .tree .nodes) ≡ 513
 
-made : (t : Trainer) → settingsHold (t .settings) ≡ true → Sound (t .tree) → phaseHolds t ≡ true → Held t
+made : (t : Trainer) → settingsHold (t .settings) ≡ true → Sound (t .settings) (t .tree) → phaseHolds t ≡ true → Held t
+unfolding boxHolds
 made t s g p =
     record {
       accepted =
           accepted-is t
-          ∙ and-both (settingsHold (t .settings)) (grownOf (t .tree) && phaseHolds t) s (and-both (grownOf (t .tree)) (phaseHolds t) (g .grown) p);
+          ∙ and-both (settingsHold (t .settings)) (grownOf (t .tree) && (boxHolds t && phaseHolds t)) s
+          (and-both (grownOf (t .tree)) (boxHolds t && phaseHolds t) (g .grown) (and-both (boxHolds t) (phaseHolds t) (g .box) p));
       whole = g .whole;
     }
 
-pub held-sound : (t : Trainer) → Held t → Sound (t .tree)
-held-sound t a = record { grown = accepted-grown t (a .accepted); whole = a .whole }
+pub held-sound : (t : Trainer) → Held t → Sound (t .settings) (t .tree)
+unfolding boxHolds
+held-sound t a = record { grown = accepted-grown t (a .accepted); box = accepted-box t (a .accepted); whole = a .whole }
 
 -- ---- stage and round
 tuning-from : (t : Trainer) → t .stage ≤ t .settings .«rule_splits» → t .round < t .settings .«optimization_rounds_per_split» → tuning t ≡ true
@@ -97,7 +103,7 @@ nothing-kept : (best : Float) → keptIn best 0 none cube.zero ≡ true
 unfolding keptIn toBits
 nothing-kept best = refl
 
-module _ (s : Settings) (t : RuleTree) (h : settingsHold s ≡ true) (g : Sound t) where
+module _ (s : Settings) (t : RuleTree) (h : settingsHold s ≡ true) (g : Sound s t) where
   stand-idle : (p i r : ℕ) → idle (stand s t p i r) ≡ true
   unfolding untriedIn toBits
   stand-idle p i r = refl
@@ -171,10 +177,11 @@ default-valid s h =
 
 pub start-held : (s : Settings) → settingsHold s ≡ true → Held (started s)
 start-held s h =
-    round-held s (freshTree cube.usualEnds (s .«default_action»)) h
+    round-held s (freshTree (s .ends) (s .«default_action»)) h
     (record {
-      grown = fresh-grown cube.usualEnds (s .«default_action») (default-valid s (parts s h .1)) usual-ends;
-      whole = fresh-length cube.usualEnds (s .«default_action»);
+      grown = fresh-grown (s .ends) (s .«default_action») (default-valid s (parts s h .1)) (parts s h .4);
+      box = ends-themselves (s .ends) (ends-admitted (s .ends) (parts s h .4));
+      whole = fresh-length (s .ends) (s .«default_action»);
     })
     0 0 (omega arith)
 
@@ -189,11 +196,13 @@ module _ (t : Trainer) (a : Held t) (xs : List ℕ) (c : countsHold (t .tree) xs
       let m = chosen-found (t .tree) xs c (accepted-grown t (a .accepted)) in
       ap (λ (w : Chosen). leafIn (t .tree) (chosenLeaf w)) (m .1) ∙ chosen-leaf (t .tree) xs c false (m .0) (m .1)
 
-  split-sound : t .tree .splits < 64 → Sound (splitMostUsed (t .tree) xs)
+  split-sound : t .tree .splits < 64 → Sound (t .settings) (splitMostUsed (t .tree) xs)
+  unfolding splitAt
   split-sound l =
       let i = chosenLeaf (mostUsedIn (t .tree) xs false) in
       record {
         grown = split-grown (t .tree) i (a .whole) (accepted-grown t (a .accepted)) most-leaf l;
+        box = held-sound t a .box;
         whole = split-length (t .tree) i ∙ a .whole;
       }
 
@@ -242,7 +251,7 @@ module _ (t : Trainer) (a : Held t) (xs : List ℕ) (c : countsHold (t .tree) xs
     next-held : Held (nextRound t)
     next-held =
         round-held (t .settings) (withoutMarks (t .tree)) set
-        (record { grown = clear-grown (t .tree) (accepted-grown t (a .accepted)); whole = clear-length (t .tree) ∙ a .whole })
+        (record { grown = clear-grown (t .tree) (accepted-grown t (a .accepted)); box = held-sound t a .box; whole = clear-length (t .tree) ∙ a .whole })
         (t .stage) (t .round + 1) (tunes .0)
 
     leaf-unmarked : (i : ℕ) → mostUsedIn (t .tree) xs true ≡ Leaf i → leafHoldsIn (t .tree) i ≡ true
@@ -308,17 +317,18 @@ record AtLeaf (t : Trainer) : Type 0 where
   round : t .round < t .settings .«optimization_rounds_per_split»
 
 module _ (t : Trainer) (x : AtLeaf t) where
-  marked-held : (tree : RuleTree) → Sound tree → leafHoldsIn tree (t .leaf) ≡ true → Held (marked t tree)
+  marked-held : (tree : RuleTree) → Sound (t .settings) tree → leafHoldsIn tree (t .leaf) ≡ true → Held (marked t tree)
   unfolding leafHoldsIn
   marked-held tree g u =
       stand-three (t .settings) (withMark tree (t .leaf)) (x .set)
       (record {
         grown = mark-grown tree (t .leaf) (g .grown) (and-left (leafIn tree (t .leaf)) (not (nodeAt (tree .nodes) (t .leaf) .optimized)) u);
+        box = g .box;
         whole = mark-length tree (t .leaf) ∙ g .whole;
       })
       (t .stage) (t .round) (x .stage) (x .round)
 
-  from-held : (tree : RuleTree) (best : Float) → Sound tree → leafHoldsIn tree (t .leaf) ≡ true → Held (tryFrom t tree best)
+  from-held : (tree : RuleTree) (best : Float) → Sound (t .settings) tree → leafHoldsIn tree (t .leaf) ≡ true → Held (tryFrom t tree best)
   unfolding tryFrom
   from-held tree best g u = go (eqb (length (candidatesOf (t .settings) (actionAt tree (t .leaf)))) 0) refl
     where
@@ -355,6 +365,7 @@ module _ (t : Trainer) (x : AtLeaf t) where
             from-held (withAction (t .tree) (t .leaf) c) score
             (record {
               grown = action-grown (t .tree) (t .leaf) c (r .grown) (r .leaf) v;
+              box = held-sound t a .box;
               whole = action-length (t .tree) (t .leaf) c ∙ a .whole;
             })
             (adopted-unmarked c)

@@ -1,4 +1,4 @@
--- Which settings hold: one fact for each way through the four tests, over plain values, and what settings that hold have.
+-- Which settings hold: one fact for each way through its tests, over plain values, and what settings that hold have.
 -- Assumes nothing.
 use mathlib.Core.Path.{_≡_, refl, sym, subst}
 use mathlib.Core.Bool.{Bool, true, false, _&&_}
@@ -17,6 +17,7 @@ use mir.ValLaws.{toZ-ofZ}
 use Rattle.remy.specs.declared.action.Action.{Action}
 use Rattle.remy.specs.Action.{validOf, incrementHolds}
 use Rattle.remy.specs.Cube as cube
+use Rattle.rule_tree.specs.Grown.{endsHold}
 use Rattle.trainer.specs.declared.settings.Settings.{Settings}
 use Rattle.trainer.specs.Settings.{numbersHold, actionsHold, changesHold, axesHold, settingsHold, multiplierAxis, incrementAxis, delayAxis}
 use Rattle.trainer.specs.Axes.{WholeFits, Upto}
@@ -106,8 +107,14 @@ module _ (s : Settings) where
   unfolding axesHold
   axes-multiplier h = rw h
 
-  -- ---- all four
-  pub hold-all : (b : Bool) → numbersHold s ≡ true → actionsHold s ≡ true → changesHold s ≡ true → b ≡ axesHold s → b ≡ settingsHold s
+  -- ---- all five
+  pub ranges-all : (b : Bool) → axesHold s ≡ true → b ≡ endsHold (s .ends) → b ≡ axesHold s && endsHold (s .ends)
+  ranges-all b h e = rw h e
+
+  pub ranges-axes : axesHold s ≡ false → false ≡ axesHold s && endsHold (s .ends)
+  ranges-axes h = rw h
+
+  pub hold-all : (b : Bool) → numbersHold s ≡ true → actionsHold s ≡ true → changesHold s ≡ true → b ≡ axesHold s && endsHold (s .ends) → b ≡ settingsHold s
   unfolding settingsHold
   hold-all b h k l e = rw (h, k, l) e
 
@@ -138,11 +145,18 @@ four a b c d h =
     let u = and-right b (c && d) t in
     (and-left a (b && (c && d)) h, and-left b (c && d) t, and-left c d u, and-right c d u)
 
+five : (a b c d e : Bool) → (a && (b && (c && (d && e)))) ≡ true → (a ≡ true) × (b ≡ true) × (c ≡ true) × (d ≡ true) × (e ≡ true)
+five a b c d e h =
+    let t = and-right a (b && (c && (d && e))) h in
+    let u = and-right b (c && (d && e)) t in
+    let v = and-right c (d && e) u in
+    (and-left a (b && (c && (d && e))) h, and-left b (c && (d && e)) t, and-left c (d && e) u, and-left d e v, and-right d e v)
+
 module _ (s : Settings) where
-  -- numbers, actions, changes, axes
-  pub parts : settingsHold s ≡ true → (numbersHold s ≡ true) × (actionsHold s ≡ true) × (changesHold s ≡ true) × (axesHold s ≡ true)
+  -- numbers, actions, changes, axes, ends
+  pub parts : settingsHold s ≡ true → (numbersHold s ≡ true) × (actionsHold s ≡ true) × (changesHold s ≡ true) × (axesHold s ≡ true) × (endsHold (s .ends) ≡ true)
   unfolding settingsHold
-  parts h = four (numbersHold s) (actionsHold s) (changesHold s) (axesHold s) h
+  parts h = five (numbersHold s) (actionsHold s) (changesHold s) (axesHold s) (endsHold (s .ends)) h
 
   ends-valid : actionsHold s ≡ true → (validOf (s .«min_action») ≡ true) × (validOf (s .«max_action») ≡ true)
   unfolding actionsHold

@@ -63,11 +63,11 @@ module _ (s : Settings) (t : RuleTree) (r : Trainer) where
   unfolding beginRound
   round-over i round l e = rw (le-ltb round (s .«optimization_rounds_per_split») l) e
 
-pub training-begins : (s : Settings) (e : Point) (t : RuleTree) (r : Trainer) → e ≡ cube.usualEnds → t ≡ freshTree e (s .«default_action») → r ≡ beginRound s t 0 0 → r ≡ started s
-training-begins s e t r p q h = h ∙ ap (λ (x : RuleTree). beginRound s x 0 0) (q ∙ ap (λ (x : Point). freshTree x (s .«default_action»)) p)
+pub training-begins : (s : Settings) (t : RuleTree) (r : Trainer) → t ≡ freshTree (s .ends) (s .«default_action») → r ≡ beginRound s t 0 0 → r ≡ started s
+training-begins s t r q h = h ∙ ap (λ (x : RuleTree). beginRound s x 0 0) q
 
-abbrev pub settingsWith : Action → Settings
-settingsWith a =
+abbrev pub settingsWith : Action → Point → Settings
+settingsWith a e =
     record {
       «rule_splits» = 0;
       «optimization_rounds_per_split» = 0;
@@ -78,10 +78,12 @@ settingsWith a =
       «initial_action_change» = a;
       «max_action_change» = a;
       «default_action» = a;
+      ends = e;
     }
 
-pub blank-is : (a : Action) (t : RuleTree) (r : Trainer) → a ≡ noAction → t ≡ blankTree → r ≡ stand (settingsWith a) t 0 0 0 → r ≡ blankTrainer
-blank-is a t r p h k = k ∙ (λ j. stand (settingsWith (p j)) (h j) 0 0 0)
+pub blank-is : (a : Action) (e : Point) (t : RuleTree) (r : Trainer) → a ≡ noAction → e ≡ cube.pointOf cube.zero cube.zero cube.zero → t ≡ blankTree
+    → r ≡ stand (settingsWith a e) t 0 0 0 → r ≡ blankTrainer
+blank-is a e t r p q h k = k ∙ (λ j. stand (settingsWith (p j) (q j)) (h j) 0 0 0)
 
 -- ---- the most used leaf
 pub nobody-chosen : (m w : Chosen) → m ≡ w → (tagOf the-type m ≡ 1) ⊎ (tagOf the-type m ≡ 2) → 0 ≡ chosenLeaf w

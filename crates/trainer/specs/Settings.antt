@@ -10,6 +10,7 @@ use lib.Ieee.{Float, fin, binary64, mul, le, lt, ofInt}
 use Rattle.remy.specs.declared.action.Action.{Action}
 use Rattle.remy.specs.Action.{validOf}
 use Rattle.remy.specs.Cube as cube
+use Rattle.rule_tree.specs.Grown.{endsHold}
 use Rattle.trainer.specs.declared.settings.Settings.{Settings}
 
 -- "An axis lists initial, then times multiplier each, while <= max change": its first n values from x on
@@ -58,6 +59,7 @@ unfolding floatAxis wholeAxis
 axesHold s =
     leb (length (multiplierAxis 9 s)) 8 && (leb (length (incrementAxis 9 s)) 8 && leb (length (delayAxis 9 s)) 8)
 
+-- 02, wish 8: "the three upper ends be settings, each from 1 to 1,000,000"; "Outside that, refuse as settings"
 unfoldable pub settingsHold : Settings → Bool
 unfolding numbersHold actionsHold changesHold axesHold
-settingsHold s = numbersHold s && (actionsHold s && (changesHold s && axesHold s))
+settingsHold s = numbersHold s && (actionsHold s && (changesHold s && (axesHold s && endsHold (s .ends))))

@@ -121,6 +121,10 @@ phaseHolds t =
     (cond (eqb (t .phase) 5) (tuning t && (leafHolds t && tryHolds t))
     (cond (eqb (t .phase) 6 || eqb (t .phase) 7) (ending t) false))))
 
+-- the tree has the upper ends of the settings
+unfoldable pub boxHolds : Trainer → Bool
+boxHolds t = cube.pointEqual (t .tree .ends) (t .settings .ends)
+
 unfoldable pub acceptedOf : Trainer → Bool
-unfolding phaseHolds
-acceptedOf t = settingsHold (t .settings) && (grownOf (t .tree) && phaseHolds t)
+unfolding boxHolds phaseHolds
+acceptedOf t = settingsHold (t .settings) && (grownOf (t .tree) && (boxHolds t && phaseHolds t))

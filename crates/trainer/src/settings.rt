@@ -3,6 +3,7 @@ ghost use mathlib.Core.Path.{_≡_};
 ghost use Rattle.trainer.specs.Settings.{settingsHold};
 use crate::inner::axes;
 use remy::action::Action;
+use remy::point::Point;
 
 pub struct Settings {
     pub rule_splits: u32,
@@ -14,6 +15,8 @@ pub struct Settings {
     pub initial_action_change: Action,
     pub max_action_change: Action,
     pub default_action: Action,
+    // The upper ends of the root box.
+    pub ends: Point,
 }
 
 impl Settings {
@@ -24,7 +27,7 @@ impl Settings {
         if axes::numbers_hold(self) {
             if axes::actions_hold(self) {
                 if axes::changes_hold(self) {
-                    return axes::axes_hold(self);
+                    return axes::ranges_hold(self);
                 }
             }
         }

@@ -5,7 +5,7 @@ ghost use Prim.Native.Nat.{_<_, _≤_};
 ghost use Rattle.rule_tree.specs.Grown.{grownOf};
 ghost use Rattle.rule_tree.specs.Calls.{leafIn};
 ghost use Rattle.trainer.specs.Settings.{settingsHold};
-ghost use Rattle.trainer.specs.State.{zeroBits, untriedIn, keptIn, untried, leafHolds, tryHolds, tuning, phaseHolds, acceptedOf};
+ghost use Rattle.trainer.specs.State.{zeroBits, untriedIn, keptIn, untried, leafHolds, tryHolds, tuning, boxHolds, phaseHolds, acceptedOf};
 ghost use Rattle.trainer.specs.Fields.{idleIn, splittingIn, tuningIn, endingIn};
 use crate::Trainer;
 use crate::inner::axes;
@@ -177,6 +177,15 @@ fn phase_holds(t: Trainer) -> bool
     }
 }
 
+// The tree has the upper ends of the settings.
+fn box_holds(t: Trainer) -> bool
+    ensures { λ r. ⌜ r ≡ boxHolds t ⌝ }
+{
+    let e = t.tree.ends;
+    let u = t.settings.ends;
+    e.equals(u)
+}
+
 pub fn accepted(t: Trainer) -> bool
     ensures { λ r. ⌜ r ≡ acceptedOf t ⌝ }
 {
@@ -184,7 +193,9 @@ pub fn accepted(t: Trainer) -> bool
     if s.hold() {
         let tree = t.tree;
         if rule_tree::inner::links::grown(tree) {
-            return phase_holds(t);
+            if box_holds(t) {
+                return phase_holds(t);
+            }
         }
     }
     false

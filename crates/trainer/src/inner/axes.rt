@@ -1,6 +1,6 @@
 // The axes of a change, and the list of candidates as the product of what each axis keeps.
 ghost use mathlib.Core.Path.{_≡_};
-ghost use mathlib.Core.Bool.{true};
+ghost use mathlib.Core.Bool.{true, _&&_};
 ghost use mathlib.Core.List.{_∷_, [], _++_};
 ghost use Prim.Native.Nat.{_<_, _≤_, _+_};
 ghost use lib.Dec.{leb};
@@ -9,6 +9,7 @@ ghost use lib.ListN.{length, getD, take};
 ghost use lib.Ieee.{nan};
 ghost use lib.Signed.{mag};
 ghost use Rattle.remy.specs.Action.{validOf};
+ghost use Rattle.rule_tree.specs.Grown.{endsHold};
 ghost use Rattle.trainer.specs.Settings.{floatAxis, wholeAxis, numbersHold, actionsHold, changesHold, axesHold, settingsHold};
 ghost use Rattle.trainer.specs.Candidates.{candidatesOf, pickOf, filter};
 ghost use Rattle.trainer.specs.Axes.{floatInside, wholeInside, keptFloats, keptWholes, HoldsFloats, HoldsWholes, WholeFits, multiplierSums, incrementSums, delaySums};
@@ -108,7 +109,7 @@ fn wholes_end(times: u32, first: i32, max: i32) -> bool
     !(n <= max)
 }
 
-pub fn axes_hold(s: Settings) -> bool
+fn axes_hold(s: Settings) -> bool
     requires { ⌜ (numbersHold s ≡ true) × (changesHold s ≡ true) ⌝ }
     ensures { λ r. ⌜ r ≡ axesHold s ⌝ }
 {
@@ -123,6 +124,18 @@ pub fn axes_hold(s: Settings) -> bool
         ) {
             return floats_end(times, initial.intersend_delay.0, most.intersend_delay.0);
         }
+    }
+    false
+}
+
+// The axes end, and the upper ends are ones that a box may have.
+pub fn ranges_hold(s: Settings) -> bool
+    requires { ⌜ (numbersHold s ≡ true) × (changesHold s ≡ true) ⌝ }
+    ensures { λ r. ⌜ r ≡ (axesHold s && endsHold (s .ends)) ⌝ }
+{
+    if axes_hold(s) {
+        let e = s.ends;
+        return rule_tree::inner::links::ends_hold(e);
     }
     false
 }

@@ -97,7 +97,8 @@ pub fn begin_training(s: Settings) -> Trainer
     ensures { λ r. ⌜ r ≡ started s ⌝ }
 {
     let a = s.default_action;
-    let t = rule_tree::inner::change::fresh(Point::usual_ends(), a);
+    let e = s.ends;
+    let t = rule_tree::inner::change::fresh(e, a);
     begin_round(s, t, 0, 0)
 }
 
@@ -116,6 +117,7 @@ pub fn blank() -> Trainer
         initial_action_change: a,
         max_action_change: a,
         default_action: a,
+        ends: Point::new(0.0, 0.0, 0.0),
     };
     let t = rule_tree::inner::change::blank();
     stand_at(s, t, 0, 0, 0)
