@@ -15,11 +15,14 @@ use mir.Syntax.{w32}
 use mir.Val.{ofZ, toZ}
 use mir.ValLaws.{ofZ-toZ}
 use Rattle.remy.specs.Action.{validOf}
-use Rattle.remy.specs.Cube.{ack, send, ratio, usualEnds}
+use Rattle.remy.specs.Cube.{ack, send, ratio, leastEnd}
+use Rattle.remy.proofs.Ends.{ends-from-one}
 use Rattle.rule_tree.specs.Grown.{endsHold}
-use Rattle.rule_tree.proofs.Plain.{and-l, and-r}
+use Rattle.rule_tree.proofs.Plain.{and-l, and-r, ends-admitted}
 use Rattle.trainer.specs.declared.settings.Settings.{Settings}
-use Rattle.trainer.specs.Settings.{numbersHold, actionsHold, changesHold, axesHold, settingsHold}
+use Rattle.trainer.specs.Settings.{actionsHold, settingsHold}
+use Rattle.trainer.proofs.Holds.{parts}
+use Rattle.record.specs.declared.inner.layout.Layout.{Layout}
 use Rattle.wire.specs.Bytes.{bytesOf, numberAt, flagByte}
 use Rattle.wire.specs.Fields.{floatBytes, actionBytes, pointBytes}
 use Rattle.record.specs.Write.{settingsBytes, numbersBytes}
@@ -29,7 +32,7 @@ use Rattle.record.specs.Accepted.{flagAccepted}
 use Rattle.wire.proofs.Bytes.{bytes-count}
 use Rattle.record.proofs.Writing.{action-count}
 use Rattle.record.proofs.Stands.{Stands, moved}
-use Rattle.record.proofs.NumbersAgain.{Bytes, drop-bytes, bytes-again, number-below, Plain, plain-not-nan, not-nan-finite, not-nan-equal}
+use Rattle.record.proofs.NumbersAgain.{Bytes, drop-bytes, bytes-again, number-below, Plain, plain-not-nan, not-nan-finite, not-nan-least}
 
 -- the five actions of settings that hold
 pub record ActionsValid (s : Settings) : Type 0 where
@@ -40,9 +43,9 @@ pub record ActionsValid (s : Settings) : Type 0 where
   pub default : validOf (s .«default_action») ≡ true
 
 pub actions-valid : (s : Settings) → settingsHold s ≡ true → ActionsValid s
-unfolding settingsHold actionsHold
+unfolding actionsHold
 actions-valid s h =
-    let v = and-l (actionsHold s) (changesHold s && axesHold s) (and-r (numbersHold s) (actionsHold s && (changesHold s && axesHold s)) h) in
+    let v = parts s h .1 in
     let v1 = and-r (validOf (s .«min_action»)) _ v in
     let v2 = and-r (validOf (s .«max_action»)) _ v1 in
     let v3 = and-r (validOf (s .«initial_action_change»)) _ v2 in
@@ -128,24 +131,23 @@ module _ (bytes : List ℕ) where
         (float-stands (at + 12) (omega arith) (plain-not-nan _ (float-below (at + 12)) (not-nan-finite _ (and-l (finite (floatAt bytes (at + 12))) _ r))))))
 
     pub point-stands : (at : ℕ) → at + 24 ≤ length bytes → endsHold (pointAt bytes at) ≡ true → Stands bytes at (pointBytes (pointAt bytes at))
-    unfolding endsHold
     point-stands at l h =
         let p = pointAt bytes at in
         let a = floatBytes (ack p) in
         let d = floatBytes (send p) in
         let e = floatBytes (ratio p) in
-        let r = and-r (eq (ack p) (ack usualEnds)) _ h in
+        let r = ends-from-one p (ends-admitted p h) in
         joined at 8 a (d ++ e) (bytes-count 8 _)
-        (float-stands at (omega arith) (plain-not-nan _ (float-below at) (not-nan-equal _ _ (and-l (eq (ack p) (ack usualEnds)) _ h))))
+        (float-stands at (omega arith) (plain-not-nan _ (float-below at) (not-nan-least leastEnd _ (r .0))))
         (then at 8 8 16 d e (bytes-count 8 _) refl
-        (float-stands (at + 8) (omega arith) (plain-not-nan _ (float-below (at + 8)) (not-nan-equal _ _ (and-l (eq (send p) (send usualEnds)) _ r))))
-        (float-stands (at + 16) (omega arith) (plain-not-nan _ (float-below (at + 16)) (not-nan-equal _ _ (and-r (eq (send p) (send usualEnds)) _ r)))))
+        (float-stands (at + 8) (omega arith) (plain-not-nan _ (float-below (at + 8)) (not-nan-least leastEnd _ (r .1 .0))))
+        (float-stands (at + 16) (omega arith) (plain-not-nan _ (float-below (at + 16)) (not-nan-least leastEnd _ (r .1 .1)))))
 
     -- ---- the settings
-    pub settings-stand : (at : ℕ) → at + 113 ≤ length bytes → settingsHold (settingsAt bytes at) ≡ true → flagAccepted bytes (at + 12) ≡ true
-        → Stands bytes at (settingsBytes (settingsAt bytes at))
-    settings-stand at l h f =
-        let s = settingsAt bytes at in
+    pub settings-stand : (lay : Layout) (at : ℕ) → at + 113 ≤ length bytes → settingsHold (settingsAt lay bytes at) ≡ true → flagAccepted bytes (at + 12) ≡ true
+        → Stands bytes at (settingsBytes (settingsAt lay bytes at))
+    settings-stand lay at l h f =
+        let s = settingsAt lay bytes at in
         let v = actions-valid s h in
         let m = actionBytes (s .«min_action») in
         let n = actionBytes (s .«max_action») in

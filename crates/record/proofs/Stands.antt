@@ -26,7 +26,7 @@ use Rattle.wire.specs.Bytes.{bytesOf, numberAt, flagByte}
 use Rattle.wire.specs.Fields.{floatBytes, actionBytes, pointBytes}
 use Rattle.record.specs.Write.{settingsBytes, numbersBytes, nodeBytes, payloadBytes}
 use Rattle.wire.specs.Fields.{floatAt, actionAt, flagAt, pointAt}
-use Rattle.record.specs.Read.{settingsAt}
+use Rattle.record.specs.Read.{settingsAt, endsAt}
 use Rattle.record.specs.Parts.{nodeFields}
 use Rattle.wire.proofs.Bytes.{bytes-count, number-stands}
 use Rattle.record.proofs.Reading.{settings-read}
@@ -137,9 +137,11 @@ pub record SettingsFits (s : Settings) : Type 0 where
   pub initial : ActionFits (s .«initial_action_change»)
   pub most : ActionFits (s .«max_action_change»)
   pub default : ActionFits (s .«default_action»)
+  pub ends : PointFits (s .ends)
 
-pub settings-back : (bytes : List ℕ) (at : ℕ) (s : Settings) → SettingsFits s → Stands bytes at (settingsBytes s) → s ≡ settingsAt bytes at
-settings-back bytes at s f h =
+pub settings-back : (lay : Layout) (bytes : List ℕ) (at : ℕ) (s : Settings) → SettingsFits s → Stands bytes at (settingsBytes s)
+    → s .ends ≡ endsAt lay bytes (at + 113) → s ≡ settingsAt lay bytes at
+settings-back lay bytes at s f h e =
     let a = bytesOf 4 (s .«rule_splits») in
     let b = bytesOf 4 (s .«optimization_rounds_per_split») in
     let d = bytesOf 4 (s .«action_change_multiplier») in
@@ -157,7 +159,7 @@ settings-back bytes at s f h =
     let h53 = onward bytes at 33 20 53 q (r ++ (u ++ v)) (action-count (s .«max_action»)) refl h33 in
     let h73 = onward bytes at 53 20 73 r (u ++ v) (action-count (s .«initial_action_change»)) refl h53 in
     let h93 = onward bytes at 73 20 93 u v (action-count (s .«max_action_change»)) refl h73 in
-    settings-read bytes at
+    settings-read lay bytes at
     (sym (number-back bytes at 4 _ (f .splits) (first bytes at a (b ++ (d ++ (w ++ (p ++ (q ++ (r ++ (u ++ v))))))) h)))
     (sym (number-back bytes (at + 4) 4 _ (f .rounds) (first bytes (at + 4) b (d ++ (w ++ (p ++ (q ++ (r ++ (u ++ v)))))) h4)))
     (sym (number-back bytes (at + 8) 4 _ (f .multiplier) (first bytes (at + 8) d (w ++ (p ++ (q ++ (r ++ (u ++ v))))) h8)))
@@ -166,4 +168,4 @@ settings-back bytes at s f h =
     (sym (action-back bytes (at + 33) _ (f .max) (first bytes (at + 33) q (r ++ (u ++ v)) h33)))
     (sym (action-back bytes (at + 53) _ (f .initial) (first bytes (at + 53) r (u ++ v) h53)))
     (sym (action-back bytes (at + 73) _ (f .most) (first bytes (at + 73) u v h73)))
-    (sym (action-back bytes (at + 93) _ (f .default) h93))
+    (sym (action-back bytes (at + 93) _ (f .default) h93)) e

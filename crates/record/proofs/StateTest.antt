@@ -68,7 +68,7 @@ bestNumber bytes at =
 
 module _ (lay : Layout) (a : Action) (bytes : List ℕ) (s at : ℕ) (few : s ≤ 64) (all : Bytes bytes) where
   abbrev t : Trainer
-  t = stateAt (settingsAt bytes 5) (treeAt lay a bytes s) bytes at
+  t = stateAt (settingsAt lay bytes 5) (treeAt lay a bytes s) bytes at
 
   abbrev leaf : ℕ
   leaf = numberAt bytes (at + 9) 2

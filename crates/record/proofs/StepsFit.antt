@@ -220,7 +220,7 @@ part t f = record { settings = f .settings; tree = f .tree; best = f .best; scor
 
 pub started-fits : (s : Settings) → SettingsFits s → acceptedOf (started s) ≡ true → TrainerFits (started s)
 started-fits s f a =
-    whole-fits (started s) a (round-fits s f (freshTree cube.usualEnds (s .«default_action»)) (fresh-fits (s .«default_action») (f .default)) 0 0)
+    whole-fits (started s) a (round-fits s f (freshTree (s .ends) (s .«default_action»)) (fresh-fits (s .ends) (s .«default_action») (f .ends) (f .default)) 0 0)
 
 pub counted-fits : (t : Trainer) (xs : List ℕ) → TrainerFits t → acceptedOf (answerCountsOf t xs .trainer) ≡ true → TrainerFits (answerCountsOf t xs .trainer)
 counted-fits t xs f a = whole-fits (answerCountsOf t xs .trainer) a (counts-fit t (part t f) xs)

@@ -105,20 +105,20 @@ splits-written l at t cs ps {l1} {l2} ec ep p q =
 pub point-count : (p : Point) → length (pointBytes p) ≡ 24
 point-count p = simp (length-append, bytes-count)
 
-pub ends-written : (l : List ℕ) (at : ℕ) (lay : Layout) (t : RuleTree) {l1 : List ℕ} → lay .ends ≡ true → l1 ≡ sets l at (pointBytes (t .ends))
-    → (at + 24 ≡ at + endsSize lay) × (l1 ≡ sets l at (endBytes lay t))
+pub ends-written : (l : List ℕ) (at : ℕ) (lay : Layout) (s : Settings) {l1 : List ℕ} → lay .ends ≡ true → l1 ≡ sets l at (pointBytes (s .ends))
+    → (at + 24 ≡ at + endsSize lay) × (l1 ≡ sets l at (endBytes lay s))
 unfolding endsSize
-ends-written l at lay t e p = (
+ends-written l at lay s e p = (
   ap (λ (b : Bool). at + cond b 24 0) (sym e),
-  p ∙ ap (λ (b : Bool). sets l at (cond b (pointBytes (t .ends)) [])) (sym e),
+  p ∙ ap (λ (b : Bool). sets l at (cond b (pointBytes (s .ends)) [])) (sym e),
 )
 
-pub ends-skipped : (l : List ℕ) (at : ℕ) (lay : Layout) (t : RuleTree) → lay .ends ≡ false
-    → (at ≡ at + endsSize lay) × (l ≡ sets l at (endBytes lay t))
+pub ends-skipped : (l : List ℕ) (at : ℕ) (lay : Layout) (s : Settings) → lay .ends ≡ false
+    → (at ≡ at + endsSize lay) × (l ≡ sets l at (endBytes lay s))
 unfolding endsSize
-ends-skipped l at lay t e = (
+ends-skipped l at lay s e = (
   (let z : at ≡ at + 0 = omega arith in z) ∙ ap (λ (b : Bool). at + cond b 24 0) (sym e),
-  ap (λ (b : Bool). sets l at (cond b (pointBytes (t .ends)) [])) (sym e),
+  ap (λ (b : Bool). sets l at (cond b (pointBytes (s .ends)) [])) (sym e),
 )
 
 -- the bytes that are needed at a place for the ends

@@ -84,12 +84,12 @@ fn put_splits(buf: &mut [u8], at: usize, t: RuleTree)
 }
 
 // The upper ends, where the layout has them. The place after them.
-fn put_ends(buf: &mut [u8], at: usize, l: Layout, t: RuleTree) -> usize
+fn put_ends(buf: &mut [u8], at: usize, l: Layout, s: Settings) -> usize
     requires { ⌜ at + endsSize l ≤ length (now buf) ⌝ }
-    ensures { λ r. ⌜ (r ≡ at + endsSize l) × (now (buf .exit) ≡ sets (now (buf .entry)) at (endBytes l t)) ⌝ }
+    ensures { λ r. ⌜ (r ≡ at + endsSize l) × (now (buf .exit) ≡ sets (now (buf .entry)) at (endBytes l s)) ⌝ }
 {
     if l.ends {
-        let ends = t.ends;
+        let ends = s.ends;
         put_point(buf, at, ends);
         return at + 24;
     }
@@ -171,7 +171,7 @@ pub fn write(buf: &mut [u8], l: Layout, version: u8, t: Trainer)
     put(buf, 0, 4, (size - 4) as u64);
     buf[4] = version;
     put_settings(buf, 5, s);
-    let after = put_ends(buf, 118, l, tree);
+    let after = put_ends(buf, 118, l, s);
     put_splits(buf, after, tree);
     let at = put_nodes(buf, after + 2 + 2 * (splits as usize), l, tree);
     put_state(buf, at, t);
