@@ -75,4 +75,5 @@ ValidPhase s t i r phase7 = Ending s i r
 pub record ValidState (st : State) : Type 0 where
   pub settings : settingsHold (st .settings) ≡ true
   pub tree : ValidTree (st .tree)
+  pub box : st .tree .ends ≡ st .settings .ends
   pub phase : ValidPhase (st .settings) (st .tree) (st .stage) (st .round) (st .phase)

@@ -5,6 +5,7 @@ use lib.IntN.{pos}
 use lib.Ieee.{Float, binary64, div, ofInt}
 use Rattle.remy.specs.declared.action.Action.{Action}
 use Rattle.remy.specs.Action.{actionOf}
+use Rattle.remy.specs.Cube.{usualEnds}
 use Rattle.trainer.specs.declared.settings.Settings.{Settings}
 
 -- n / 100, rounded once: what the decimal reads as
@@ -28,4 +29,5 @@ originalSettings =
       «initial_action_change» = original 1 1 5;
       «max_action_change» = original 50 32 100;
       «default_action» = original 100 1 300;
+      ends = usualEnds;
     }

@@ -4,7 +4,7 @@ use lib.Dec.{leb}
 use lib.ListN.{length}
 use lib.IntN.{pos, negsuc}
 use lib.Signed.{leZ, ltZ}
-use lib.Ieee.{lt}
+use lib.Ieee.{Float, binary64, lt, le, ofInt}
 use lib.Ieee.Scale.{finite}
 use Rattle.quantities.specs.Time.{span}
 use Rattle.remy.specs.declared.action.Action.{Action}
@@ -50,9 +50,16 @@ axesTaken s =
     leb (length (floatAxis 9 multiplierOf s)) 8
     && (leb (length (wholeAxis 9 incrementOf s)) 8 && leb (length (floatAxis 9 delayOf s)) 8)
 
+-- 02, wish 8: "the three upper ends be settings, each from 1 to 1,000,000"; "Outside that, refuse as settings"
+abbrev pub endTaken : Float → Bool
+endTaken x = le (ofInt binary64 (pos 1)) x && le x (ofInt binary64 (pos 1000000))
+
+unfoldable pub endsTaken : Settings → Bool
+endsTaken s = endTaken (cube.ack (s .ends)) && (endTaken (cube.send (s .ends)) && endTaken (cube.ratio (s .ends)))
+
 unfoldable pub settingsTaken : Settings → Bool
-unfolding numbersTaken actionsTaken changesTaken axesTaken
-settingsTaken s = numbersTaken s && (actionsTaken s && (changesTaken s && axesTaken s))
+unfolding numbersTaken actionsTaken changesTaken axesTaken endsTaken
+settingsTaken s = numbersTaken s && (actionsTaken s && (changesTaken s && (axesTaken s && endsTaken s)))
 
 -- "off, always n, or lo..=hi handed in (hi at most 4,294,967,294)"; refused: "lo above hi, or hi too large"
 unfoldable pub modeTaken : RepeatMode → Bool
