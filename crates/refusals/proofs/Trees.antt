@@ -11,7 +11,7 @@ use Rattle.refusal.specs.Guards.{Test, guarded}
 use Rattle.refusal.proofs.Guards.{always, numbered}
 use Rattle.remy.specs.declared.action.Action.{Action}
 use Rattle.remy.specs.declared.point.Point.{Point}
-use Rattle.remy.specs.Cube.{rootOf, containsOf, usualEnds}
+use Rattle.remy.specs.Cube.{rootOf, containsOf}
 use Rattle.rule_tree.specs.declared.Node.{Node}
 use Rattle.rule_tree.specs.declared.RuleTree.{RuleTree}
 use Rattle.rule_tree.specs.declared.AugmentedRuleTree.{AugmentedRuleTree}
@@ -50,9 +50,9 @@ changed ts t u =
 abbrev Changing : List Test → RuleTree → Changed → Type 0
 Changing ts t r = Guarded ts (λ (r : Changed). r .refused) (λ (r : Changed). r .tree) t r
 
-pub new-guarded : (a : Action) → Changing (newOrder a) blankTree (newOf a)
+pub new-guarded : (e : Point) (a : Action) → Changing (newOrder e a) blankTree (newOf e a)
 unfolding newOf
-new-guarded a = changed (newOrder a) blankTree (freshTree usualEnds a)
+new-guarded e a = changed (newOrder e a) blankTree (freshTree e a)
 
 pub set-guarded : (t : RuleTree) (i : ℕ) (a : Action) → Changing (actionOrder t i a) t (setOf t i a)
 unfolding setOf

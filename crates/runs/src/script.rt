@@ -10,6 +10,7 @@ ghost use Rattle.runs.specs.Turn.{fixedSize, listedSize, wholeSize};
 use quantities::Time;
 use quantities::TimeSpan;
 use remy::action::Action;
+use remy::point::Point;
 use sender::Average;
 use sender::Draw;
 use sender::Moment;
@@ -59,6 +60,16 @@ fn action(ws: &[u64], i: usize) -> Action
     Action::new(multiplier, increment, delay)
 }
 
+// The upper ends, which stand after the sender.
+fn ends(ws: &[u64]) -> Point
+    ensures { λ r. ⌜ r ≡ spec.ends (now (ws .entry)) ⌝ }
+{
+    let ack = float(ws, 43);
+    let send = float(ws, 44);
+    let ratio = float(ws, 45);
+    Point::new(ack, send, ratio)
+}
+
 pub(crate) fn settings(ws: &[u64]) -> Settings
     ensures { λ r. ⌜ r ≡ spec.settings (now (ws .entry)) ⌝ }
 {
@@ -71,6 +82,7 @@ pub(crate) fn settings(ws: &[u64]) -> Settings
     let initial_action_change = action(ws, 10);
     let max_action_change = action(ws, 13);
     let default_action = action(ws, 16);
+    let ends = ends(ws);
     Settings {
         rule_splits,
         optimization_rounds_per_split,
@@ -81,6 +93,7 @@ pub(crate) fn settings(ws: &[u64]) -> Settings
         initial_action_change,
         max_action_change,
         default_action,
+        ends,
     }
 }
 
