@@ -127,7 +127,8 @@ fn reached(links: &[u16; 513], s: u16, ends: Point, leaf: u16, action: Action, p
             let found = Looked::Found(action);
             return Told::Known(found);
         }
-        return Told::At(node as usize);
+        let at = node as usize;
+        return Told::At(at);
     }
     let none = Looked::Nothing;
     Told::Known(none)

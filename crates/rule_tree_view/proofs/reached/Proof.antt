@@ -32,8 +32,8 @@ returns c =
     let s = w .before .before .before .before in
     law.reached-same (now (s .args .links)) (s .args .ends) (s .args .leaf) (s .args .action) (s .args .p) _ (w .before .before .before .root .ensures) (inside (w .before)) (w .walk .result) (w .walk .ensures) (c .if2 .taken)
 
-cast-t14 : tie.Need-cast-t14
-cast-t14 c = search needs
+cast-at : tie.Need-cast-at
+cast-at c = search needs
 
 returns-2 : tie.Need-returns-2
 returns-2 c =
@@ -55,6 +55,6 @@ reached-spec =
     contains-requires
     walk-requires
     returns
-    cast-t14
+    cast-at
     returns-2
     returns-3)
