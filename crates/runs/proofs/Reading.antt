@@ -14,6 +14,7 @@ use mir.Syntax.{w32}
 use mir.Val.{toZ}
 use Rattle.remy.specs.declared.action.Action.{Action}
 use Rattle.remy.specs.Action.{actionOf}
+use Rattle.remy.specs.declared.point.Point.{Point}
 use Rattle.remy.specs.Cube.{pointOf}
 use Rattle.rule_tree.specs.declared.RuleTree.{RuleTree}
 use Rattle.trainer.specs.declared.settings.Settings.{Settings}

@@ -17,7 +17,7 @@ new-requires c κs = tt
 
 returns : tie.Need-returns
 returns c =
-    law.ends-read (c .before .before .before .before .args .ws .now) (c .new .ensures) (c .before .before .before .float .ensures)
+    law.ends-read (c .before .before .before .before .before .args .ws .now) (c .new .ensures) (c .before .before .before .float .ensures)
     (c .before .before .float2 .ensures) (c .before .float3 .ensures)
 
 pub ends-spec : {M : Type 1} → statement M
