@@ -107,12 +107,12 @@ replaced-told a p =
     (λ h. replaced-in (a .tree) (a .leaf) (a .action) p (leaf-inside (a .tree) (a .leaf) (h .0) (h .1 .0)) _ refl _ refl)
 
 pub view-told :
-    (nodes : List Node) (leaf : ℕ) (a : Action) (p : Point)
-    → lookedTold (viewOf nodes leaf a p) ≡ guarded (viewOrder nodes leaf a) refusedWith (told (viewGives nodes leaf a p))
+    (nodes : List Node) (ends : Point) (leaf : ℕ) (a : Action) (p : Point)
+    → lookedTold (viewOf nodes ends leaf a p) ≡ guarded (viewOrder nodes ends leaf a) refusedWith (told (viewGives nodes ends leaf a p))
 unfolding viewOf lookedTold
-view-told nodes leaf a p =
+view-told nodes ends leaf a p =
     both (λ (r : Looked) (v : Told Action). lookedTold r ≡ v) (eqb (length nodes) (nodeCount (parentsIn nodes)))
-    (replaced-told (record { tree = lentTree nodes; leaf = leaf; action = a }) p) refl
+    (replaced-told (record { tree = lentTree nodes ends; leaf = leaf; action = a }) p) refl
 
 -- ---- counts
 pub tally-told : (t : RuleTree) (xs : List ℕ) (p : Point) → talliedTold (tallyOf t xs p) ≡ guarded (tallyOrder t xs p) refusedWith (told (tallyGives t p))
