@@ -2,6 +2,7 @@
 // candidate's multiplier bits, increment and delay bits; the length and "none" past the end; "refused" and the number.
 use libc::STDOUT_FILENO;
 use remy::action::Action;
+use remy::point::Point;
 use trainer::candidates::Candidate;
 use trainer::settings::Settings;
 
@@ -11,20 +12,26 @@ fn action(multiplier: f64, increment: i32, milliseconds: f64) -> Action {
 }
 
 // The settings of the Rust's default trainer, but for what is handed in.
-fn settings(multiplier: u32, initial_change: Action, max_change: Action) -> Settings {
+fn settings(
+    action_change_multiplier: u32,
+    initial_action_change: Action,
+    max_action_change: Action,
+) -> Settings {
     let min_action = action(0.0, 0, 0.25);
     let max_action = action(1.0, 256, 3.0);
     let default_action = action(1.0, 1, 3.0);
+    let ends = Point::usual_ends();
     Settings {
         rule_splits: 12,
-        rounds: 2,
-        multiplier,
-        drill: true,
+        optimization_rounds_per_split: 2,
+        action_change_multiplier,
+        drill_down: true,
         min_action,
         max_action,
-        initial_change,
-        max_change,
+        initial_action_change,
+        max_action_change,
         default_action,
+        ends,
     }
 }
 

@@ -6,4 +6,5 @@ pub mod Zero
 pub mod Interval
 pub mod Average
 pub mod Bits
+pub mod Same
 pub mod Whole

@@ -8,6 +8,9 @@ use lib.Dec.{eqb, ltb, leb}
 use lib.ListN.{length}
 use lib.Ieee.{Float, toBits}
 use Rattle.remy.specs.Cube as cube
+use Rattle.remy.specs.Cube.{pointEqual}
+use Rattle.remy.proofs.Ends.{ends-themselves}
+use Rattle.rule_tree.proofs.Plain.{ends-admitted}
 use Rattle.rule_tree.specs.declared.Node.{Node}
 use Rattle.rule_tree.specs.declared.RuleTree.{RuleTree}
 use Rattle.rule_tree.specs.Nodes.{nodeAt, actionIn}
@@ -18,7 +21,7 @@ use Rattle.trainer.specs.declared.settings.Settings.{Settings}
 use Rattle.trainer.specs.declared.Trainer.{Trainer}
 use Rattle.trainer.specs.Settings.{settingsHold}
 use Rattle.trainer.specs.Candidates.{candidatesOf}
-use Rattle.trainer.specs.State.{none, stand, untriedIn, idle, leafAction, leafHolds, keptIn, tryHolds, splitting, tuning, ending, phaseHolds, acceptedOf}
+use Rattle.trainer.specs.State.{none, stand, untriedIn, idle, leafAction, leafHolds, keptIn, tryHolds, splitting, tuning, ending, boxHolds, phaseHolds, acceptedOf}
 use Rattle.trainer.proofs.AcceptWays.{accepted-is, phase-is}
 use Rattle.promise.specs.PlainTree.{Tree, ruleAt}
 use Rattle.promise.specs.PlainTrainer.{State, Phase, Kept, nothing, just, phase1, phase2, phase3, phase4, phase5, phase6, phase7, keptNumber, keptScore}
@@ -112,6 +115,14 @@ tree-of s t i r (phase5 leaf best k kept) = refl
 tree-of s t i r phase6 = refl
 tree-of s t i r phase7 = refl
 
+box-embeds : (st : State) → ValidTree (st .tree) → st .tree .ends ≡ st .settings .ends → boxHolds (embed st) ≡ true
+unfolding boxHolds
+box-embeds st v b =
+    let e = settings-of (st .settings) (embedTree (st .tree)) (st .stage) (st .round) (st .phase) in
+    let q = tree-of (st .settings) (embedTree (st .tree)) (st .stage) (st .round) (st .phase) in
+    (λ j. pointEqual (q j .ends) (e j .ends)) ∙ ap (pointEqual (st .tree .ends)) (sym b)
+    ∙ ends-themselves (st .tree .ends) (ends-admitted (st .tree .ends) (v .box))
+
 pub accepted-embeds : (st : State) → ValidState st → acceptedOf (embed st) ≡ true
 accepted-embeds st v =
     let e = settings-of (st .settings) (embedTree (st .tree)) (st .stage) (st .round) (st .phase) in
@@ -119,4 +130,5 @@ accepted-embeds st v =
     accepted-is (embed st)
     ∙ and-both (settingsHold (embed st .settings)) _ (ap settingsHold e ∙ v .settings)
     (and-both (grownOf (embed st .tree)) _ (ap grownOf q ∙ grown-embeds (st .tree) (v .tree))
-    (phase-accepted (st .settings) (st .tree) (v .tree) (st .stage) (st .round) (st .phase) (v .phase)))
+    (and-both (boxHolds (embed st)) _ (box-embeds st (v .tree) (v .box))
+    (phase-accepted (st .settings) (st .tree) (v .tree) (st .stage) (st .round) (st .phase) (v .phase))))

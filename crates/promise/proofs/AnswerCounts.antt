@@ -47,7 +47,7 @@ phase1-is :
     → layer.phase1 t xs
     ≡ cond (ltb (t .tree .splits) 64)
     (layer.taken
-    (cond (t .settings .drill && leb (usedIn xs) 1) (stand (t .settings) (layer.splitMostUsed (t .tree) xs) 2 (t .stage) 0)
+    (cond (t .settings .«drill_down» && leb (usedIn xs) 1) (stand (t .settings) (layer.splitMostUsed (t .tree) xs) 2 (t .stage) 0)
     (layer.beginRound (t .settings) (layer.splitMostUsed (t .tree) xs) (t .stage) 0)))
     (layer.refuse 20 t)
 unfolding layer.phase1
@@ -150,10 +150,10 @@ module _ (s : Settings) (t : Tree) (v : ValidTree t) (i : ℕ) (xs : List ℕ) (
   phase1-embeds =
       phase1-is (stand s (embedTree t) 1 i 0) xs
       ∙ split-or-20 (at s t i 0 phase1) v xs n
-      (λ q. cond (s .drill && leb (usedIn xs) 1) (stand s q 2 i 0) (layer.beginRound s q i 0))
-      (λ u. cond (s .drill && leb (used xs) 1) (at s u i 0 phase2) (beginRound s u i 0))
-      (λ u. ap (λ (m : ℕ). cond (s .drill && leb m 1) (stand s (embedTree u) 2 i 0) (layer.beginRound s (embedTree u) i 0)) (sym (used-is xs))
-      ∙ go u (s .drill && leb (used xs) 1))
+      (λ q. cond (s .«drill_down» && leb (usedIn xs) 1) (stand s q 2 i 0) (layer.beginRound s q i 0))
+      (λ u. cond (s .«drill_down» && leb (used xs) 1) (at s u i 0 phase2) (beginRound s u i 0))
+      (λ u. ap (λ (m : ℕ). cond (s .«drill_down» && leb m 1) (stand s (embedTree u) 2 i 0) (layer.beginRound s (embedTree u) i 0)) (sym (used-is xs))
+      ∙ go u (s .«drill_down» && leb (used xs) 1))
     where
       go :
           (u : Tree) (z : Bool)

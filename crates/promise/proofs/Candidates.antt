@@ -126,23 +126,23 @@ module _ (s : Settings) (h : settingsHold s ≡ true) (n : ℕ) (m : 8 ≤ n) wh
       )
 
   float-whole :
-      (part : Action → Float) → let t = ofInt binary64 (pos (s .multiplier)) in
-      length (theirs.floatAxis 9 t (part (s .«initial_change»)) (part (s .«max_change»))) ≤ 8 → plain.floatAxis n part s ≡ plain.floatAxis 8 part s
+      (part : Action → Float) → let t = ofInt binary64 (pos (s .«action_change_multiplier»)) in
+      length (theirs.floatAxis 9 t (part (s .«initial_action_change»)) (part (s .«max_action_change»))) ≤ 8 → plain.floatAxis n part s ≡ plain.floatAxis 8 part s
   float-whole part l =
-      let t = ofInt binary64 (pos (s .multiplier)) in
-      enough (λ (v : Float). le v (part (s .«max_change»))) (mul binary64 t) 8 n (part (s .«initial_change»)) m
-      (rw (float-axis 9 t (part (s .«initial_change»)) (part (s .«max_change»))) l)
+      let t = ofInt binary64 (pos (s .«action_change_multiplier»)) in
+      enough (λ (v : Float). le v (part (s .«max_action_change»))) (mul binary64 t) 8 n (part (s .«initial_action_change»)) m
+      (rw (float-axis 9 t (part (s .«initial_action_change»)) (part (s .«max_action_change»))) l)
 
   pub axes-whole :
       (plain.floatAxis n plain.multiplierOf s ≡ plain.floatAxis 8 plain.multiplierOf s)
       × ((plain.wholeAxis n plain.incrementOf s ≡ plain.wholeAxis 8 plain.incrementOf s)
       × (plain.floatAxis n plain.delayOf s ≡ plain.floatAxis 8 plain.delayOf s))
   axes-whole =
-      let first = s .«initial_change» .«window_increment» in
-      let most = s .«max_change» .«window_increment» in (
+      let first = s .«initial_action_change» .«window_increment» in
+      let most = s .«max_action_change» .«window_increment» in (
         float-whole plain.multiplierOf (axes-few .0),
         (
-          enough (λ (v : ℤ). leZ v most) (_*ℤ_ (pos (s .multiplier))) 8 n first m (rw (whole-axis 9 (pos (s .multiplier)) first most) (axes-few .1 .0)),
+          enough (λ (v : ℤ). leZ v most) (_*ℤ_ (pos (s .«action_change_multiplier»))) 8 n first m (rw (whole-axis 9 (pos (s .«action_change_multiplier»)) first most) (axes-few .1 .0)),
           float-whole plain.delayOf (axes-few .1 .1),
         ),
       )
@@ -151,12 +151,12 @@ module _ (s : Settings) (h : settingsHold s ≡ true) (n : ℕ) (m : 8 ≤ n) wh
 -- what settings that are taken hold
 pub record Held (s : Settings) : Type 0 where
   pub splits : s .«rule_splits» ≤ 64
-  pub rounds : s .rounds ≤ 1000
-  pub multiplier : s .multiplier ≤ 16
+  pub rounds : s .«optimization_rounds_per_split» ≤ 1000
+  pub multiplier : s .«action_change_multiplier» ≤ 16
   pub least : validOf (s .«min_action») ≡ true
   pub most : validOf (s .«max_action») ≡ true
-  pub initial : validOf (s .«initial_change») ≡ true
-  pub largest : validOf (s .«max_change») ≡ true
+  pub initial : validOf (s .«initial_action_change») ≡ true
+  pub largest : validOf (s .«max_action_change») ≡ true
   pub default : validOf (s .«default_action») ≡ true
 
 pub settings-facts : (s : Settings) → settingsHold s ≡ true → Held s
@@ -165,17 +165,17 @@ settings-facts s h =
     let numbers = parts s h .0 in
     let acts = and-right (validOf (s .«min_action»)) _ (parts s h .1) in
     let changes = and-right (validOf (s .«max_action»)) _ acts in
-    let last = and-right (validOf (s .«initial_change»)) _ changes in
+    let last = and-right (validOf (s .«initial_action_change»)) _ changes in
     record {
       splits = few-splits s h;
       rounds = few-rounds s h;
-      multiplier = leb-true (s .multiplier) 16
-          (and-right (leb 2 (s .multiplier)) _ (and-right (leb (s .rounds) 1000) _ (and-right (leb (s .«rule_splits») 64) _ numbers)));
+      multiplier = leb-true (s .«action_change_multiplier») 16
+          (and-right (leb 2 (s .«action_change_multiplier»)) _ (and-right (leb (s .«optimization_rounds_per_split») 1000) _ (and-right (leb (s .«rule_splits») 64) _ numbers)));
       least = min-valid s h;
       most = max-valid s h;
-      initial = and-left (validOf (s .«initial_change»)) _ changes;
-      largest = and-left (validOf (s .«max_change»)) _ last;
-      default = and-right (validOf (s .«max_change»)) _ last;
+      initial = and-left (validOf (s .«initial_action_change»)) _ changes;
+      largest = and-left (validOf (s .«max_action_change»)) _ last;
+      default = and-right (validOf (s .«max_action_change»)) _ last;
     }
 
 pub default-valid : (s : Settings) → settingsHold s ≡ true → validOf (s .«default_action») ≡ true

@@ -20,17 +20,17 @@ use Rattle.promise.proofs.Accepted.{tree-of}
 use Rattle.promise.proofs.Begins.{start-valid}
 use Rattle.promise.proofs.Questions.{question-embeds}
 use Rattle.promise.proofs.Records.{record-embeds}
-use Rattle.promise.proofs.Fitting.{every-take, start-fits}
+use Rattle.promise.proofs.Fitting.{every-take, point-fits, start-fits}
 use Rattle.promise.proofs.Runs.{events-embed, end-embeds, end-valid, starts-taken, starts-alike}
 use Rattle.promise.proofs.Ways.{tree-parted, tree-same, way-events, way-left, way-ack, way-unmoved, way-send, way-tick}
 
 module _ (s : Settings) (h : settingsHold s ≡ true) (f : FitSettings s) (cs : List Call) (c : Every FitCall cs) where
   ends-alike : (ds : List Call) → Every FitCall ds → endOf (startOf s .trainer) ds ≡ embed (plainEnd (start s) ds)
-  ends-alike ds d = ap (λ (t : Trainer). endOf t ds) (starts-alike s h) ∙ end-embeds (start s) ds (start-valid s h) (start-fits s h f) d
+  ends-alike ds d = ap (λ (t : Trainer). endOf t ds) (starts-alike s h) ∙ end-embeds (start s) ds (start-valid s h (point-fits (f .ends))) (start-fits s h f) d
 
   -- each tree on the way is the one that the plain trainer's stands for
   way-valid : (k : ℕ) → ValidTree (plainTreeAfter s cs k)
-  way-valid k = end-valid (start s) (take k cs) (start-valid s h) .tree
+  way-valid k = end-valid (start s) (take k cs) (start-valid s h (point-fits (f .ends))) .tree
 
   way-alike : (k : ℕ) → treeAfter s cs k ≡ embedTree (plainTreeAfter s cs k)
   way-alike k =
@@ -44,9 +44,9 @@ demand-3 s h f cs c =
     let valid = way-valid s h f cs c in
     record {
       starts = starts-taken s h;
-      asks = ap questionOf (starts-alike s h) ∙ question-embeds (start s) (start-valid s h);
-      events = ap (λ (t : Trainer). eventsOf t cs) (starts-alike s h) ∙ events-embed (start s) cs (start-valid s h) (start-fits s h f) c;
-      final = ap recordOf (ends-alike s h f cs c cs c) ∙ record-embeds (plainEnd (start s) cs) (end-valid (start s) cs (start-valid s h));
+      asks = ap questionOf (starts-alike s h) ∙ question-embeds (start s) (start-valid s h (point-fits (f .ends)));
+      events = ap (λ (t : Trainer). eventsOf t cs) (starts-alike s h) ∙ events-embed (start s) cs (start-valid s h (point-fits (f .ends))) (start-fits s h f) c;
+      final = ap recordOf (ends-alike s h f cs c cs c) ∙ record-embeds (plainEnd (start s) cs) (end-valid (start s) cs (start-valid s h (point-fits (f .ends))));
       trees = λ k p. subst (λ (t : RuleTree). Parted t p) (sym (alike k)) (tree-parted (plainTreeAfter s cs k) (valid k) p);
       same = λ k. subst (λ (t : RuleTree). SameTree t (plainTreeAfter s cs k)) (sym (alike k)) (tree-same (plainTreeAfter s cs k) (valid k));
       senders = way-events (treeAfter s cs) (plainTreeAfter s cs) alike valid;

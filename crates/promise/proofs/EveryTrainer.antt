@@ -31,7 +31,7 @@ use Rattle.promise.proofs.StepsKeep.{step-valid}
 use Rattle.promise.proofs.Records.{record-embeds}
 use Rattle.promise.specs.Values.{Every, FitSettings, FitCall}
 use Rattle.promise.specs.Demand3.{shownAs, eventsOf, endOf, plainEvents, plainEnd}
-use Rattle.promise.proofs.Fitting.{FitState, settings-floats, start-fits, step-fits}
+use Rattle.promise.proofs.Fitting.{FitState, point-fits, settings-floats, start-fits, step-fits}
 use Rattle.promise.proofs.Reload.{record-length, save-embeds, load-embeds}
 use Rattle.promise.proofs.Runs.{events-embed, end-embeds, end-valid}
 use Rattle.promise.proofs.UnembedTree.{nodes-count}
@@ -51,8 +51,8 @@ embed-fits st f =
 
 -- ---- the start
 module _ (s : Settings) (h : settingsHold s ≡ true) where
-  pub start-accepted : acceptedOf (started s) ≡ true
-  start-accepted = ap acceptedOf (sym (start-embeds s)) ∙ accepted-embeds (start s) (start-valid s h)
+  pub start-accepted : FitSettings s → acceptedOf (started s) ≡ true
+  start-accepted f = ap acceptedOf (sym (start-embeds s)) ∙ accepted-embeds (start s) (start-valid s h (point-fits (f .ends)))
 
   pub start-typed : FitSettings s → TrainerFits (started s)
   start-typed f = subst TrainerFits (start-embeds s) (embed-fits (start s) (start-fits s h f))
@@ -90,7 +90,7 @@ module _ (t : Trainer) (a : acceptedOf t ≡ true) (f : TrainerFits t) where
   pub load-back : loadOf (recordOf t) ≡ taken t
   load-back = ap loadOf record-written ∙ load-embeds (plainOf t) valid fitting ∙ ap taken (plain-embeds t a f)
 
-  pub record-size : length (recordOf t) ≡ 172 + 170 * t .tree .splits
+  pub record-size : length (recordOf t) ≡ 196 + 170 * t .tree .splits
   record-size =
       ap length record-written ∙ record-length (plainOf t) valid fitting
       ∙ (let e = nodes-count (t .tree) (accepted-grown t a) in omega arith)

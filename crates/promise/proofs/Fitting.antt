@@ -8,8 +8,9 @@ use native.Mathlib.Omega.{arith}
 use lib.Dec.{leb}
 use lib.ListN.{length, take}
 use Rattle.remy.specs.declared.action.Action.{Action}
+use Rattle.remy.specs.declared.point.Point.{Point}
 use Rattle.remy.specs.Action.{validOf}
-use Rattle.rule_tree.proofs.Plain.{ActionFits}
+use Rattle.rule_tree.proofs.Plain.{ActionFits, PointFits}
 use Rattle.trainer.specs.declared.settings.Settings.{Settings}
 use Rattle.trainer.specs.declared.Trainer.{Trainer}
 use Rattle.trainer.specs.declared.Answered.{Answered}
@@ -20,7 +21,7 @@ use Rattle.record.proofs.RoundTrip.{TrainerFits}
 use Rattle.record.proofs.TreesFit.{valid-increment}
 use Rattle.record.proofs.StepsFit.{started-fits, counted-fits, scored-fits}
 use Rattle.promise.specs.PlainTrainer.{State, start, refuse, recordBytes, Call, counts, score, reload, step}
-use Rattle.promise.specs.Values.{Every, FitAction, FitSettings, FitCall}
+use Rattle.promise.specs.Values.{Every, FitAction, FitPoint, FitSettings, FitCall}
 use Rattle.promise.proofs.Candidates.{settings-facts}
 use Rattle.promise.proofs.States.{embed, ValidState}
 use Rattle.promise.proofs.Accepted.{accepted-embeds}
@@ -38,6 +39,9 @@ every-take P (suc k) (x ∷ xs) h = (h .0, every-take P k xs (h .1))
 pub valid-fits : (a : Action) → validOf a ≡ true → FitAction a → ActionFits a
 valid-fits a v f = record { multiplier = f .multiplier; increment = valid-increment a v; delay = f .delay }
 
+pub point-fits : {p : Point} → FitPoint p → PointFits p
+point-fits f = record { acks = f .acks; sends = f .sends; ratios = f .ratios }
+
 pub settings-fit : (s : Settings) → settingsHold s ≡ true → FitSettings s → SettingsFits s
 settings-fit s h f =
     let w = settings-facts s h in
@@ -47,9 +51,10 @@ settings-fit s h f =
       multiplier = omega (arith, w .multiplier);
       min = valid-fits (s .«min_action») (w .least) (f .least);
       max = valid-fits (s .«max_action») (w .most) (f .most);
-      initial = valid-fits (s .«initial_change») (w .initial) (f .initial);
-      most = valid-fits (s .«max_change») (w .largest) (f .largest);
+      initial = valid-fits (s .«initial_action_change») (w .initial) (f .initial);
+      most = valid-fits (s .«max_action_change») (w .largest) (f .largest);
       default = valid-fits (s .«default_action») (w .default) (f .default);
+      ends = point-fits (f .ends);
     }
 
 floats : (a : Action) → ActionFits a → FitAction a
@@ -63,6 +68,7 @@ settings-floats s f =
       initial = floats _ (f .initial);
       largest = floats _ (f .most);
       default = floats _ (f .default);
+      ends = record { acks = f .ends .acks; sends = f .ends .sends; ratios = f .ends .ratios };
     }
 
 -- ---- states
@@ -72,7 +78,7 @@ FitState st = TrainerFits (embed st)
 pub start-fits : (s : Settings) → settingsHold s ≡ true → FitSettings s → FitState (start s)
 start-fits s h f =
     let e = start-embeds s in
-    subst TrainerFits (sym e) (started-fits s (settings-fit s h f) (ap acceptedOf (sym e) ∙ accepted-embeds (start s) (start-valid s h)))
+    subst TrainerFits (sym e) (started-fits s (settings-fit s h f) (ap acceptedOf (sym e) ∙ accepted-embeds (start s) (start-valid s h (point-fits (f .ends)))))
 
 module _ (st : State) (v : ValidState st) (f : FitState st) where
   -- by what the trainer's call answers

@@ -63,7 +63,7 @@ module _ (bytes : List ℕ) (h : loadOf bytes .refused ≡ 0) where
   load-again : recordIn (layoutOf (versionAt bytes)) (versionAt bytes) (loadOf bytes .trainer) ≡ bytes
   load-again = ap (λ (r : Answered). recordIn (layoutOf (versionAt bytes)) (versionAt bytes) (r .trainer)) found ∙ again .again
 
-  -- "only version 2 bytes are compared in a save and load"
+  -- "written again as version 3, whose bytes alone are compared"
   pub load-written : versionAt bytes ≡ version → recordOf (loadOf bytes .trainer) ≡ bytes
   load-written v = ap (λ (n : ℕ). recordIn (layoutOf n) n (loadOf bytes .trainer)) (sym v) ∙ load-again
 
@@ -82,7 +82,7 @@ parents-given bytes h v i l n =
     let c = subst (λ (k : ℕ). Carried (layoutOf k) t) v (load-carried bytes h) in
     c .parents i l (ne-eqb (nodeAt (t .tree .nodes) i .children) 0 n)
 
--- "it is written again as version 2"
+-- older versions "are written again as version 3"
 pub written-version : (t : Trainer) → versionAt (recordOf t) ≡ version
 written-version t =
     let n = bytesOf 4 (length (bodyOf t)) in

@@ -11,6 +11,8 @@ use Rattle.remy.specs.Action.{actionOf, validOf}
 use Rattle.trainer.specs.Settings.{floatAxis, wholeAxis, numbersHold, actionsHold, changesHold, axesHold, settingsHold}
 use Rattle.trainer.specs.Candidates.{flatMap, filter, insideOf, candidatesOf}
 use Rattle.trainer.specs.Axes.{multiplierSums, incrementSums, delaySums}
+use Rattle.remy.specs.Cube.{endsAdmitted}
+use Rattle.rule_tree.specs.Grown.{endsHold}
 use Rattle.trainer.proofs.Product.{candidates-are}
 use Rattle.promise.specs.PlainTrainer.{Call}
 use Rattle.promise.specs.Values.{Every, FitSettings, FitCall}
@@ -19,7 +21,7 @@ use Rattle.promise.specs.Originals.{hundredths, originalSettings}
 use Rattle.promise.proofs.Demand3.{demand-3}
 
 pub originals-hold : settingsHold originalSettings ≡ true
-unfolding settingsHold numbersHold actionsHold changesHold axesHold floatAxis wholeAxis validOf ofInt div mul le lt
+unfolding settingsHold numbersHold actionsHold changesHold axesHold endsHold endsAdmitted floatAxis wholeAxis validOf ofInt div mul le lt
 originals-hold = refl
 
 pub originals-fit : FitSettings originalSettings
@@ -31,6 +33,7 @@ originals-fit =
       initial = record { multiplier = tt; delay = tt };
       largest = record { multiplier = tt; delay = tt };
       default = record { multiplier = tt; delay = tt };
+      ends = record { acks = tt; sends = tt; ratios = tt };
     }
 
 pub originals-demand : (cs : List Call) → Every FitCall cs → Demand3 originalSettings cs

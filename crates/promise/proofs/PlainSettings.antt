@@ -8,6 +8,8 @@ use lib.IntN.{ℤ, pos}
 use lib.Ieee.{Float, binary64, mul, le, ofInt}
 use Rattle.remy.specs.declared.action.Action.{Action}
 use Rattle.remy.specs.Action.{validOf}
+use Rattle.remy.specs.Cube.{endsAdmitted}
+use Rattle.rule_tree.specs.Grown.{endsHold}
 use Rattle.trainer.specs.declared.settings.Settings.{Settings}
 use Rattle.trainer.specs.Settings.{numbersHold, actionsHold, changesHold, axesHold, settingsHold}
 use Rattle.trainer.specs.Settings as theirs
@@ -15,7 +17,7 @@ use Rattle.sender.specs.declared.RepeatMode.{RepeatMode}
 use Rattle.sender.specs.declared.RepeatMode.the-variants.{Off, Always, Between}
 use Rattle.sender.specs.Sender.{modeHolds, freshSender}
 use Rattle.promise.specs.PlainCandidates as plain
-use Rattle.promise.specs.PlainSettings.{valid, numbersTaken, actionsTaken, changesTaken, axesTaken, settingsTaken, modeTaken, freshStart}
+use Rattle.promise.specs.PlainSettings.{valid, numbersTaken, actionsTaken, changesTaken, axesTaken, endsTaken, settingsTaken, modeTaken, freshStart}
 use Rattle.promise.proofs.Candidates.{float-axis, whole-axis}
 
 valid-same : (a : Action) → valid a ≡ validOf a
@@ -32,8 +34,8 @@ actions-same s =
     rw (
       valid-same (s .«min_action»),
       valid-same (s .«max_action»),
-      valid-same (s .«initial_change»),
-      valid-same (s .«max_change»),
+      valid-same (s .«initial_action_change»),
+      valid-same (s .«max_action_change»),
       valid-same (s .«default_action»),
     )
 
@@ -41,15 +43,19 @@ changes-same : (s : Settings) → changesTaken s ≡ changesHold s
 unfolding changesTaken changesHold
 changes-same s = refl
 
+ends-same : (s : Settings) → endsTaken s ≡ endsHold (s .ends)
+unfolding endsTaken endsHold endsAdmitted ofInt
+ends-same s = refl
+
 module _ (s : Settings) where
   float-same :
       (part : Action → Float)
       → plain.floatAxis 9 part s
-      ≡ theirs.floatAxis 9 (ofInt binary64 (pos (s .multiplier))) (part (s .«initial_change»)) (part (s .«max_change»))
-  float-same part = float-axis 9 (ofInt binary64 (pos (s .multiplier))) (part (s .«initial_change»)) (part (s .«max_change»))
+      ≡ theirs.floatAxis 9 (ofInt binary64 (pos (s .«action_change_multiplier»))) (part (s .«initial_action_change»)) (part (s .«max_action_change»))
+  float-same part = float-axis 9 (ofInt binary64 (pos (s .«action_change_multiplier»))) (part (s .«initial_action_change»)) (part (s .«max_action_change»))
 
   whole-same : plain.wholeAxis 9 plain.incrementOf s ≡ theirs.incrementAxis 9 s
-  whole-same = whole-axis 9 (pos (s .multiplier)) (s .«initial_change» .«window_increment») (s .«max_change» .«window_increment»)
+  whole-same = whole-axis 9 (pos (s .«action_change_multiplier»)) (s .«initial_action_change» .«window_increment») (s .«max_action_change» .«window_increment»)
 
   axes-same : axesTaken s ≡ axesHold s
   unfolding axesTaken axesHold
@@ -59,7 +65,7 @@ module _ (s : Settings) where
 
   pub settings-same : settingsTaken s ≡ settingsHold s
   unfolding settingsTaken settingsHold
-  settings-same = λ j. numbers-same s j && (actions-same s j && (changes-same s j && axes-same j))
+  settings-same = λ j. numbers-same s j && (actions-same s j && (changes-same s j && (axes-same j && ends-same s j)))
 
 pub mode-same : (m : RepeatMode) → modeTaken m ≡ modeHolds m
 unfolding modeTaken modeHolds

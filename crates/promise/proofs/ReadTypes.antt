@@ -52,10 +52,10 @@ action-typed bytes at = record { multiplier = read-fits _; delay = read-fits _ }
 
 -- a node's action stands at its place or, where the layout does not carry it, at the settings' default
 node-action-typed :
-    (lay : Layout) (bytes : List ℕ) (at c : ℕ) → FitAction (actionIn (nodeWith lay (givenAction (settingsAt bytes 5)) bytes at c))
+    (lay : Layout) (bytes : List ℕ) (at c : ℕ) → FitAction (actionIn (nodeWith lay (givenAction (settingsAt lay bytes 5)) bytes at c))
 node-action-typed lay bytes at c = go (carries lay c)
   where
-    go : (z : Bool) → FitAction (actionIn (cond z (carriedNode bytes at c) (givenNode (givenAction (settingsAt bytes 5)) c)))
+    go : (z : Bool) → FitAction (actionIn (cond z (carriedNode bytes at c) (givenNode (givenAction (settingsAt lay bytes 5)) c)))
     go true = action-typed bytes at
     go false = action-typed bytes 98
 
@@ -67,7 +67,7 @@ module _ (lay : Layout) (bytes : List ℕ) where
   count = splitCount lay bytes
 
   abbrev given : Action
-  given = givenAction (settingsAt bytes 5)
+  given = givenAction (settingsAt lay bytes 5)
 
   abbrev place : ℕ → ℕ
   place i = payloadPlace lay bytes count i
@@ -112,6 +112,7 @@ module _ (lay : Layout) (bytes : List ℕ) where
               initial = action-typed bytes 58;
               largest = action-typed bytes 78;
               default = action-typed bytes 98;
+              ends = record { acks = ends-typed .acks; sends = ends-typed .sends; ratios = ends-typed .ratios };
             };
         best = read-fits _;
         score = read-fits _;
@@ -123,6 +124,7 @@ module _ (lay : Layout) (bytes : List ℕ) where
       record {
         parents = λ i l e. go i l e (ltb i (nodeCount count)) refl;
         ends = λ e. ap (λ (z : Bool). cond z (pointAt bytes 118) usualEnds) e;
+        box = refl;
       }
     where
       go :

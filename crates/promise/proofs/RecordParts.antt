@@ -1,16 +1,19 @@
 -- The parts that the plain trainer writes are the record's: actions, settings, the splits' nodes, a node's action and mark. Assumes nothing.
 use mathlib.Core.Path.{_≡_, refl, sym, ap, _∙_}
+use mathlib.Core.Bool.{Bool, true, cond}
 use mathlib.Core.List.{List, [], _∷_, _++_, map, append-assoc, append-nil}
 use Prim.Native.Nat.{ℕ}
 use mir.Syntax.{w32}
 use mir.Val.{ofZ}
 use Rattle.remy.specs.declared.action.Action.{Action}
+use Rattle.remy.specs.Cube.{ack, send, ratio}
 use Rattle.trainer.specs.declared.settings.Settings.{Settings}
 use Rattle.wire.specs.Bytes.{bytesOf, flagByte}
-use Rattle.wire.specs.Fields.{floatBytes, actionBytes}
-use Rattle.record.specs.Write.{settingsBytes, numbersBytes, nodeBytes}
+use Rattle.wire.specs.Fields.{floatBytes, actionBytes, pointBytes}
+use Rattle.record.specs.declared.inner.layout.Layout.{Layout}
+use Rattle.record.specs.Write.{settingsBytes, endBytes, numbersBytes, nodeBytes}
 use Rattle.promise.specs.PlainTree.{Rule}
-use Rattle.promise.specs.PlainRecord.{joined, u16, actionPart, settingsPart, rulePart}
+use Rattle.promise.specs.PlainRecord.{joined, u16, bits8, actionPart, settingsPart, endsPart, rulePart}
 use Rattle.promise.proofs.Embed.{nodeWith}
 
 pub action-part : (a : Action) → actionPart a ≡ actionBytes a
@@ -28,9 +31,12 @@ five-fields row a b c d e k l m n o p q r s t =
 pub settings-part : (s : Settings) → settingsPart s ≡ settingsBytes s
 settings-part s =
     five-fields
-    (λ (xs : List ℕ). bytesOf 4 (s .«rule_splits») ++ (bytesOf 4 (s .rounds) ++ (bytesOf 4 (s .multiplier) ++ (flagByte (s .drill) ∷ xs))))
-    _ _ _ _ _ _ _ _ _ _ (action-part (s .«min_action»)) (action-part (s .«max_action»)) (action-part (s .«initial_change»))
-    (action-part (s .«max_change»)) (action-part (s .«default_action»))
+    (λ (xs : List ℕ). bytesOf 4 (s .«rule_splits») ++ (bytesOf 4 (s .«optimization_rounds_per_split») ++ (bytesOf 4 (s .«action_change_multiplier») ++ (flagByte (s .«drill_down») ∷ xs))))
+    _ _ _ _ _ _ _ _ _ _ (action-part (s .«min_action»)) (action-part (s .«max_action»)) (action-part (s .«initial_action_change»))
+    (action-part (s .«max_action_change»)) (action-part (s .«default_action»))
+
+pub ends-part : (lay : Layout) (s : Settings) → lay .ends ≡ true → endsPart s ≡ endBytes lay s
+ends-part lay s e = ap (λ (xs : List ℕ). bits8 (ack (s .ends)) ++ (bits8 (send (s .ends)) ++ xs)) (append-nil (bits8 (ratio (s .ends)))) ∙ ap (λ (b : Bool). cond b (pointBytes (s .ends)) []) (sym e)
 
 pub numbers-part : (xs : List ℕ) → joined (map u16 xs) ≡ numbersBytes xs
 unfolding numbersBytes

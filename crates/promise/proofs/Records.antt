@@ -14,13 +14,13 @@ use Rattle.rule_tree.specs.Nodes as layer
 use Rattle.trainer.specs.declared.settings.Settings.{Settings}
 use Rattle.trainer.specs.declared.Trainer.{Trainer}
 use Rattle.wire.specs.Bytes.{bytesOf}
-use Rattle.record.specs.Write.{settingsBytes, numbersBytes, splitsBytes, nodeBytes, payloadBytes, bodyOf, version, recordIn, recordOf}
+use Rattle.record.specs.Write.{settingsBytes, numbersBytes, endBytes, splitsBytes, nodeBytes, payloadBytes, bodyOf, version, recordIn, recordOf}
 use Rattle.record.specs.Layout.{layoutOf}
 use Rattle.record.specs.Write as written
 use Rattle.promise.specs.PlainTree.{Tree, Rule, nodes, ruleAt}
 use Rattle.promise.specs.PlainTrainer.{State, Phase, Kept, nothing, phase1, phase2, phase3, phase4, phase5, phase6, phase7, at, keptNumber, keptScore, stateBytes, phaseBytes, body, recordBytes}
-use Rattle.promise.specs.PlainRecord.{joined, u16, u32, bits8, settingsPart, rulePart, treePart}
-use Rattle.promise.proofs.RecordParts.{settings-part, numbers-part, rule-part, rules-last}
+use Rattle.promise.specs.PlainRecord.{joined, u16, u32, bits8, settingsPart, endsPart, rulePart, treePart}
+use Rattle.promise.proofs.RecordParts.{settings-part, ends-part, numbers-part, rule-part, rules-last}
 use Rattle.promise.proofs.Links.{link}
 use Rattle.promise.proofs.Embed.{embedTree, ValidTree, node-used, embed-at}
 use Rattle.promise.proofs.TreeSteps.{noRule}
@@ -94,11 +94,14 @@ body-embeds st v =
     let q = tree-of (st .settings) (embedTree (st .tree)) (st .stage) (st .round) (st .phase) in
     let bs = written.stateBytes (embed st) in
     let ss = settingsPart (st .settings) in
-    ap (λ (xs : List ℕ). version ∷ (xs ++ (splitsBytes (embed st .tree) ++ (payloadBytes (layoutOf version) (embed st .tree .nodes) (layer.nodeCount (embed st .tree .splits)) ++ bs))))
+    let es = endsPart (st .settings) in
+    ap (λ (xs : List ℕ). version ∷ (xs ++ (endBytes (layoutOf version) (embed st .settings) ++ (splitsBytes (embed st .tree) ++ (payloadBytes (layoutOf version) (embed st .tree .nodes) (layer.nodeCount (embed st .tree .splits)) ++ bs)))))
     (ap settingsBytes s ∙ sym (settings-part (st .settings)))
-    ∙ ap (λ (x : RuleTree). version ∷ (ss ++ (splitsBytes x ++ (payloadBytes (layoutOf version) (x .nodes) (layer.nodeCount (x .splits)) ++ bs)))) q
-    ∙ ap (λ (xs : List ℕ). version ∷ (ss ++ xs)) (tree-bytes (st .tree) v bs)
-    ∙ ap (λ (xs : List ℕ). version ∷ (ss ++ (treePart (st .tree) ++ xs)))
+    ∙ ap (λ (xs : List ℕ). version ∷ (ss ++ (xs ++ (splitsBytes (embed st .tree) ++ (payloadBytes (layoutOf version) (embed st .tree .nodes) (layer.nodeCount (embed st .tree .splits)) ++ bs)))))
+    (ap (endBytes (layoutOf version)) s ∙ sym (ends-part (layoutOf version) (st .settings) refl))
+    ∙ ap (λ (x : RuleTree). version ∷ (ss ++ (es ++ (splitsBytes x ++ (payloadBytes (layoutOf version) (x .nodes) (layer.nodeCount (x .splits)) ++ bs))))) q
+    ∙ ap (λ (xs : List ℕ). version ∷ (ss ++ (es ++ xs))) (tree-bytes (st .tree) v bs)
+    ∙ ap (λ (xs : List ℕ). version ∷ (ss ++ (es ++ (treePart (st .tree) ++ xs))))
     (state-bytes (st .settings) (st .tree) (st .stage) (st .round) (st .phase) ∙ sym (append-nil (phaseBytes st (st .phase))))
 
 pub record-is : (t : Trainer) → recordOf t ≡ bytesOf 4 (length (bodyOf t)) ++ bodyOf t

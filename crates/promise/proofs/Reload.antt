@@ -22,11 +22,11 @@ use Rattle.promise.proofs.Records.{record-embeds}
 use Rattle.promise.proofs.Fitting.{FitState}
 
 module _ (st : State) (v : ValidState st) (f : FitState st) where
-  pub record-length : length (recordBytes st) ≡ 172 + 170 * length (st .tree .splits)
+  pub record-length : length (recordBytes st) ≡ 196 + 170 * length (st .tree .splits)
   record-length =
       ap length (sym (record-embeds st v))
       ∙ record-count (embed st) (accepted-grown (embed st) (accepted-embeds st v)) (f .tree .full)
-      ∙ ap (λ (u : RuleTree). 172 + 170 * u .splits) (tree-of (st .settings) (embedTree (st .tree)) (st .stage) (st .round) (st .phase))
+      ∙ ap (λ (u : RuleTree). 196 + 170 * u .splits) (tree-of (st .settings) (embedTree (st .tree)) (st .stage) (st .round) (st .phase))
 
   -- a load of exactly the bytes written
   pub load-embeds : loadOf (recordBytes st) ≡ taken (embed st)

@@ -41,7 +41,7 @@ pub record Splitting (s : Settings) (i r : ℕ) : Type 0 where
 -- "stage <= rule_splits, round < rounds in 3 to 5"
 pub record Tuning (s : Settings) (i r : ℕ) : Type 0 where
   pub stage : i ≤ s .«rule_splits»
-  pub round : r < s .rounds
+  pub round : r < s .«optimization_rounds_per_split»
 
 -- "stage rule_splits+1, round 0 in 6, 7"
 pub record Ending (s : Settings) (i r : ℕ) : Type 0 where
@@ -75,4 +75,5 @@ ValidPhase s t i r phase7 = Ending s i r
 pub record ValidState (st : State) : Type 0 where
   pub settings : settingsHold (st .settings) ≡ true
   pub tree : ValidTree (st .tree)
+  pub box : st .tree .ends ≡ st .settings .ends
   pub phase : ValidPhase (st .settings) (st .tree) (st .stage) (st .round) (st .phase)

@@ -19,13 +19,14 @@ use Rattle.rule_tree.proofs.Plain.{ActionFits, PointFits}
 use Rattle.trainer.specs.declared.Trainer.{Trainer}
 use Rattle.trainer.specs.Settings.{settingsHold}
 use Rattle.trainer.specs.Candidates.{candidatesOf}
-use Rattle.trainer.specs.State.{none, stand, atLeaf, zeroBits, untriedIn, untried, idle, leafAction, leafHolds, keptIn, keptHolds, tryHolds, splitting, tuning, ending, phaseHolds, acceptedOf}
+use Rattle.trainer.specs.State.{none, stand, atLeaf, zeroBits, untriedIn, untried, idle, leafAction, leafHolds, keptIn, keptHolds, tryHolds, splitting, tuning, ending, boxHolds, phaseHolds, acceptedOf}
 use Rattle.record.proofs.RoundTrip as stored
 use Rattle.record.proofs.StepsFit.{whole-fits}
 use Rattle.promise.specs.PlainTree.{Rule}
 use Rattle.promise.specs.PlainTrainer.{State, Phase, Kept, nothing, just, phase1, phase2, phase3, phase4, phase5, phase6, phase7, at, keptNumber, keptScore}
 use Rattle.promise.proofs.Candidates.{candidates-same}
 use Rattle.promise.proofs.States.{embedIn, embed, Splitting, Tuning, Ending, AtLeaf, KeptHolds, ValidPhase, ValidState}
+use Rattle.record.proofs.Loading.{accepted-ends}
 use Rattle.promise.specs.Values.{FitSettings}
 use Rattle.promise.proofs.Fitting.{FitState, settings-fit}
 use Rattle.promise.proofs.UnembedTree.{plainTree, rule-back, leaf-back, tree-valid, tree-back}
@@ -141,7 +142,7 @@ module _ (t : Trainer) where
   tuning-parts h =
       record {
         stage = leb-true (t .stage) (t .settings .«rule_splits») (and-left (leb (t .stage) (t .settings .«rule_splits»)) _ h);
-        round = ltb-true (t .round) (t .settings .rounds) (and-right (leb (t .stage) (t .settings .«rule_splits»)) _ h);
+        round = ltb-true (t .round) (t .settings .«optimization_rounds_per_split») (and-right (leb (t .stage) (t .settings .«rule_splits»)) _ h);
       }
 
   ending-parts : ending t ≡ true → Ending (t .settings) (t .stage) (t .round) × (idle t ≡ true)
@@ -331,7 +332,7 @@ module _ (t : Trainer) (a : acceptedOf t ≡ true) where
   unfolding acceptedOf
   accepted-settings = and-left (settingsHold (t .settings)) _ a
 
-  accepted-rest : grownOf (t .tree) && phaseHolds t ≡ true
+  accepted-rest : grownOf (t .tree) && (boxHolds t && phaseHolds t) ≡ true
   unfolding acceptedOf
   accepted-rest = and-right (settingsHold (t .settings)) _ a
 
@@ -339,7 +340,7 @@ module _ (t : Trainer) (a : acceptedOf t ≡ true) where
   accepted-grown = and-left (grownOf (t .tree)) _ accepted-rest
 
   accepted-phase : phaseHolds t ≡ true
-  accepted-phase = and-right (grownOf (t .tree)) _ accepted-rest
+  accepted-phase = and-right (boxHolds t) _ (and-right (grownOf (t .tree)) _ accepted-rest)
 
 module _ (t : Trainer) (a : acceptedOf t ≡ true) (f : TrainerFits t) where
   shape : Shape t
@@ -352,14 +353,6 @@ module _ (t : Trainer) (a : acceptedOf t ≡ true) (f : TrainerFits t) where
       ∙ ap (embedIn (t .settings) (t .tree) (t .stage) (t .round)) (shape .is)
       ∙ sym (shape .same)
 
-  pub plain-valid : ValidState (plainOf t)
-  plain-valid =
-      record {
-        settings = accepted-settings t a;
-        tree = tree-valid (t .tree) (accepted-grown t a) (f .sized) (f .ends);
-        phase = subst (ValidPhase (t .settings) (plainTree (t .tree)) (t .stage) (t .round)) (sym (shape .is)) (shape .valid);
-      }
-
   -- all of its values are of their types, whole numbers too
   pub whole-typed : stored.TrainerFits t
   whole-typed =
@@ -370,6 +363,15 @@ module _ (t : Trainer) (a : acceptedOf t ≡ true) (f : TrainerFits t) where
         best = f .best;
         score = f .score;
       })
+
+  pub plain-valid : ValidState (plainOf t)
+  plain-valid =
+      record {
+        settings = accepted-settings t a;
+        tree = tree-valid (t .tree) (accepted-grown t a) (f .sized) (f .ends);
+        box = accepted-ends t whole-typed a;
+        phase = subst (ValidPhase (t .settings) (plainTree (t .tree)) (t .stage) (t .round)) (sym (shape .is)) (shape .valid);
+      }
 
   pub plain-fits : FitState (plainOf t)
   plain-fits = rw plain-embeds whole-typed

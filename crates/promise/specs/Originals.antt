@@ -5,6 +5,7 @@ use lib.IntN.{pos}
 use lib.Ieee.{Float, binary64, div, ofInt}
 use Rattle.remy.specs.declared.action.Action.{Action}
 use Rattle.remy.specs.Action.{actionOf}
+use Rattle.remy.specs.Cube.{usualEnds}
 use Rattle.trainer.specs.declared.settings.Settings.{Settings}
 
 -- n / 100, rounded once: what the decimal reads as
@@ -20,12 +21,13 @@ abbrev pub originalSettings : Settings
 originalSettings =
     record {
       «rule_splits» = 12;
-      rounds = 2;
-      multiplier = 4;
-      drill = true;
+      «optimization_rounds_per_split» = 2;
+      «action_change_multiplier» = 4;
+      «drill_down» = true;
       «min_action» = original 0 0 25;
       «max_action» = original 100 256 300;
-      «initial_change» = original 1 1 5;
-      «max_change» = original 50 32 100;
+      «initial_action_change» = original 1 1 5;
+      «max_action_change» = original 50 32 100;
       «default_action» = original 100 1 300;
+      ends = usualEnds;
     }

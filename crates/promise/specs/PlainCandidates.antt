@@ -23,12 +23,12 @@ while test (x ∷ xs) = cond (test x) (x ∷ while test xs) []
 -- "An axis lists initial, then times multiplier each, while <= max change": of its first n values; "more than 8 values is refused"
 abbrev pub floatAxis : ℕ → (Action → Float) → Settings → List Float
 floatAxis n part s =
-    while (λ (v : Float). le v (part (s .«max_change»)))
-    (growing n (mul binary64 (ofInt binary64 (pos (s .multiplier)))) (part (s .«initial_change»)))
+    while (λ (v : Float). le v (part (s .«max_action_change»)))
+    (growing n (mul binary64 (ofInt binary64 (pos (s .«action_change_multiplier»)))) (part (s .«initial_action_change»)))
 
 abbrev pub wholeAxis : ℕ → (Action → ℤ) → Settings → List ℤ
 wholeAxis n part s =
-    while (λ (v : ℤ). leZ v (part (s .«max_change»))) (growing n (_*ℤ_ (pos (s .multiplier))) (part (s .«initial_change»)))
+    while (λ (v : ℤ). leZ v (part (s .«max_action_change»))) (growing n (_*ℤ_ (pos (s .«action_change_multiplier»))) (part (s .«initial_action_change»)))
 
 -- "each axis gives v, -v in turn"
 abbrev pub inTurn : {A : Type 0} → (A → A) → List A → List A

@@ -7,6 +7,7 @@ use lib.Ieee.{Float, binary64, toBits}
 use mir.Syntax.{w32}
 use mir.Val.{ofZ}
 use Rattle.remy.specs.declared.action.Action.{Action}
+use Rattle.remy.specs.Cube.{ack, send, ratio}
 use Rattle.trainer.specs.declared.settings.Settings.{Settings}
 use Rattle.wire.specs.Bytes.{bytesOf, flagByte}
 use Rattle.promise.specs.PlainTree.{Tree, Rule}
@@ -43,9 +44,13 @@ actionPart a =
 abbrev pub settingsPart : Settings → List ℕ
 settingsPart s =
     joined
-    (u32 (s .«rule_splits») ∷ u32 (s .rounds) ∷ u32 (s .multiplier) ∷ flag (s .drill)
-    ∷ actionPart (s .«min_action») ∷ actionPart (s .«max_action») ∷ actionPart (s .«initial_change») ∷ actionPart (s .«max_change»)
+    (u32 (s .«rule_splits») ∷ u32 (s .«optimization_rounds_per_split») ∷ u32 (s .«action_change_multiplier») ∷ flag (s .«drill_down»)
+    ∷ actionPart (s .«min_action») ∷ actionPart (s .«max_action») ∷ actionPart (s .«initial_action_change») ∷ actionPart (s .«max_action_change»)
     ∷ actionPart (s .«default_action») ∷ [])
+
+-- 02, wish 8: "24 bytes after the five actions (ack, send, ratio)"
+abbrev pub endsPart : Settings → List ℕ
+endsPart s = joined (bits8 (ack (s .ends)) ∷ bits8 (send (s .ends)) ∷ bits8 (ratio (s .ends)) ∷ [])
 
 -- "its action and mark byte"
 abbrev pub rulePart : Rule → List ℕ

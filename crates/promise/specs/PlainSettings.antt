@@ -4,7 +4,7 @@ use lib.Dec.{leb}
 use lib.ListN.{length}
 use lib.IntN.{pos, negsuc}
 use lib.Signed.{leZ, ltZ}
-use lib.Ieee.{lt}
+use lib.Ieee.{Float, binary64, lt, le, ofInt}
 use lib.Ieee.Scale.{finite}
 use Rattle.quantities.specs.Time.{span}
 use Rattle.remy.specs.declared.action.Action.{Action}
@@ -21,7 +21,7 @@ use Rattle.promise.specs.PlainCandidates.{floatAxis, wholeAxis, multipli
 
 -- "rule_splits 0..=64, rounds 0..=1000, multiplier 2..=16"
 unfoldable pub numbersTaken : Settings → Bool
-numbersTaken s = leb (s .«rule_splits») 64 && (leb (s .rounds) 1000 && (leb 2 (s .multiplier) && leb (s .multiplier) 16))
+numbersTaken s = leb (s .«rule_splits») 64 && (leb (s .«optimization_rounds_per_split») 1000 && (leb 2 (s .«action_change_multiplier») && leb (s .«action_change_multiplier») 16))
 
 -- "An action is valid if both floats are finite and the increment is in -1,000,000..=1,000,000"
 unfoldable pub valid : Action → Bool
@@ -34,15 +34,15 @@ unfoldable pub actionsTaken : Settings → Bool
 unfolding valid
 actionsTaken s =
     valid (s .«min_action»)
-    && (valid (s .«max_action») && (valid (s .«initial_change») && (valid (s .«max_change») && valid (s .«default_action»))))
+    && (valid (s .«max_action») && (valid (s .«initial_action_change») && (valid (s .«max_action_change») && valid (s .«default_action»))))
 
 -- "Initial change has all parts above 0; both change increments are at most 65,536"
 unfoldable pub changesTaken : Settings → Bool
 changesTaken s =
-    lt cube.zero (multiplierOf (s .«initial_change»))
-    && (ltZ (pos 0) (incrementOf (s .«initial_change»))
-    && (lt cube.zero (delayOf (s .«initial_change»))
-    && (leZ (incrementOf (s .«initial_change»)) (pos 65536) && leZ (incrementOf (s .«max_change»)) (pos 65536))))
+    lt cube.zero (multiplierOf (s .«initial_action_change»))
+    && (ltZ (pos 0) (incrementOf (s .«initial_action_change»))
+    && (lt cube.zero (delayOf (s .«initial_action_change»))
+    && (leZ (incrementOf (s .«initial_action_change»)) (pos 65536) && leZ (incrementOf (s .«max_action_change»)) (pos 65536))))
 
 -- "more than 8 values is refused, none is allowed": of an axis that may list nine
 unfoldable pub axesTaken : Settings → Bool
@@ -50,9 +50,16 @@ axesTaken s =
     leb (length (floatAxis 9 multiplierOf s)) 8
     && (leb (length (wholeAxis 9 incrementOf s)) 8 && leb (length (floatAxis 9 delayOf s)) 8)
 
+-- 02, wish 8: "the three upper ends be settings, each from 1 to 1,000,000"; "Outside that, refuse as settings"
+abbrev pub endTaken : Float → Bool
+endTaken x = le (ofInt binary64 (pos 1)) x && le x (ofInt binary64 (pos 1000000))
+
+unfoldable pub endsTaken : Settings → Bool
+endsTaken s = endTaken (cube.ack (s .ends)) && (endTaken (cube.send (s .ends)) && endTaken (cube.ratio (s .ends)))
+
 unfoldable pub settingsTaken : Settings → Bool
-unfolding numbersTaken actionsTaken changesTaken axesTaken
-settingsTaken s = numbersTaken s && (actionsTaken s && (changesTaken s && axesTaken s))
+unfolding numbersTaken actionsTaken changesTaken axesTaken endsTaken
+settingsTaken s = numbersTaken s && (actionsTaken s && (changesTaken s && (axesTaken s && endsTaken s)))
 
 -- "off, always n, or lo..=hi handed in (hi at most 4,294,967,294)"; refused: "lo above hi, or hi too large"
 unfoldable pub modeTaken : RepeatMode → Bool

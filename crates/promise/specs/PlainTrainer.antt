@@ -11,7 +11,7 @@ use Rattle.remy.specs.Cube as cube
 use Rattle.trainer.specs.declared.settings.Settings.{Settings}
 use Rattle.promise.specs.PlainCandidates.{improvements, noCandidate}
 use Rattle.promise.specs.PlainTree.{Tree, Choice, nobody, leaf, rootLeaf, ruleAt, split, setAction, mark, clearMarks, leaves, unmarkedLeaves, mostUsed, used, sum, countsTaken}
-use Rattle.promise.specs.PlainRecord.{joined, byte, u16, u32, bits8, settingsPart, treePart}
+use Rattle.promise.specs.PlainRecord.{joined, byte, u16, u32, bits8, settingsPart, endsPart, treePart}
 
 -- "the kept candidate with its score, or none"
 pub data Kept : Type 0 where
@@ -43,11 +43,11 @@ beginLaterStage s t i = cond (ltb (s .«rule_splits») i) (at s t i 0 phase6) (a
 -- "Begin round: phase 3 if round < rounds, else begin stage i+1"
 unfoldable pub beginRound : Settings → Tree → ℕ → ℕ → State
 unfolding beginLaterStage
-beginRound s t i round = cond (ltb round (s .rounds)) (at s t i round phase3) (beginLaterStage s t (i + 1))
+beginRound s t i round = cond (ltb round (s .«optimization_rounds_per_split»)) (at s t i round phase3) (beginLaterStage s t (i + 1))
 
--- "Start: default leaf, then begin stage 0", which no rule_splits is below: "i = 0 begin round"; the leaf is the usual root
+-- "Start: default leaf, then begin stage 0", which no rule_splits is below: "i = 0 begin round"; the leaf has the upper ends of the settings
 abbrev pub start : Settings → State
-start s = beginRound s (rootLeaf cube.usualEnds (s .«default_action»)) 0 0
+start s = beginRound s (rootLeaf (s .ends) (s .«default_action»)) 0 0
 
 -- what a call answers: a refusal's number or 0, and the bytes that it saved
 pub record Outcome : Type 0 where
@@ -73,7 +73,7 @@ splitMostUsed st counts then = splitChosen st (mostUsed counts (leaves (st .tree
 abbrev pub answer1 : State → List ℕ → Outcome
 answer1 st counts =
     splitMostUsed st counts
-    (λ t. cond (st .settings .drill && leb (used counts) 1) (at (st .settings) t (st .stage) (st .round) phase2)
+    (λ t. cond (st .settings .«drill_down» && leb (used counts) 1) (at (st .settings) t (st .stage) (st .round) phase2)
     (beginRound (st .settings) t (st .stage) (st .round)))
 
 -- "2, counts: more than one above 0, begin round; else split the most used, stay"
@@ -174,9 +174,9 @@ phaseBytes st (phase5 i best k kept) = stateBytes st 5 i best k kept
 phaseBytes st phase6 = stateBytes st 6 0 cube.zero 0 nothing
 phaseBytes st phase7 = stateBytes st 7 0 cube.zero 0 nothing
 
--- the version byte, 2, and what follows it
+-- the version byte, 3, and what follows it
 abbrev pub body : State → List ℕ
-body st = joined (byte 2 ∷ settingsPart (st .settings) ∷ treePart (st .tree) ∷ phaseBytes st (st .phase) ∷ [])
+body st = joined (byte 3 ∷ settingsPart (st .settings) ∷ endsPart (st .settings) ∷ treePart (st .tree) ∷ phaseBytes st (st .phase) ∷ [])
 
 -- "u32 length of all that follows"
 abbrev pub recordBytes : State → List ℕ

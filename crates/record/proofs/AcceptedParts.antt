@@ -17,9 +17,8 @@ use Rattle.record.specs.Accepted.{flagAccepted, sizeAccepted, settingsAc
 pub record Accepted (lay : Layout) (bytes : List ℕ) (s : ℕ) : Type 0 where
   pub few : s ≤ 64
   pub size : length bytes ≡ sizeIn lay s
-  pub settings : settingsHold (settingsAt bytes 5) ≡ true
+  pub settings : settingsHold (settingsAt lay bytes 5) ≡ true
   pub drill : flagAccepted bytes 17 ≡ true
-  pub ends : endsHold (endsAt lay bytes 118) ≡ true
   pub splits : splitsAccepted lay bytes s ≡ true
   pub nodes : nodesAccepted lay bytes s ≡ true
   pub state : stateAccepted lay bytes s (statePlace lay s) ≡ true
@@ -29,22 +28,20 @@ unfolding acceptedIn sizeAccepted settingsAccepted
 accepted-parts lay bytes s h =
     let a = and-l (sizeAccepted lay bytes s) _ h in
     let r1 = and-r (sizeAccepted lay bytes s) _ h in
-    let b = and-l (settingsAccepted bytes) _ r1 in
-    let r2 = and-r (settingsAccepted bytes) _ r1 in
-    let r3 = and-r (endsHold (endsAt lay bytes 118)) _ r2 in
-    let r4 = and-r (splitsAccepted lay bytes s) _ r3 in
+    let b = and-l (settingsAccepted lay bytes) _ r1 in
+    let r2 = and-r (settingsAccepted lay bytes) _ r1 in
+    let r3 = and-r (splitsAccepted lay bytes s) _ r2 in
     record {
       few = leb-true s 64 (and-l (leb s 64) _ a);
       size = eqb-true (length bytes) (sizeIn lay s) (and-r (leb s 64) _ a);
-      settings = and-l (settingsHold (settingsAt bytes 5)) _ b;
-      drill = and-r (settingsHold (settingsAt bytes 5)) _ b;
-      ends = and-l (endsHold (endsAt lay bytes 118)) _ r2;
-      splits = and-l (splitsAccepted lay bytes s) _ r3;
-      nodes = and-l (nodesAccepted lay bytes s) _ r4;
-      state = and-r (nodesAccepted lay bytes s) _ r4;
+      settings = and-l (settingsHold (settingsAt lay bytes 5)) _ b;
+      drill = and-r (settingsHold (settingsAt lay bytes 5)) _ b;
+      splits = and-l (splitsAccepted lay bytes s) _ r2;
+      nodes = and-l (nodesAccepted lay bytes s) _ r3;
+      state = and-r (nodesAccepted lay bytes s) _ r3;
     }
 
 pub parts-accepted : (lay : Layout) (bytes : List ℕ) (s : ℕ) → Accepted lay bytes s → acceptedIn lay bytes s ≡ true
 unfolding acceptedIn sizeAccepted settingsAccepted
 parts-accepted lay bytes s h =
-    rw (le-leb s 64 (h .few), eq-eqb (length bytes) (sizeIn lay s) (h .size), h .settings, h .drill, h .ends, h .splits, h .nodes, h .state)
+    rw (le-leb s 64 (h .few), eq-eqb (length bytes) (sizeIn lay s) (h .size), h .settings, h .drill, h .splits, h .nodes, h .state)

@@ -37,50 +37,10 @@ action-fits bytes at h =
       delay = ofBits-fits binary64 (numberAt bytes (at + 12) 8);
     }
 
-pub settings-fits : (bytes : List ℕ) (at : ℕ) → Bytes bytes → SettingsFits (settingsAt bytes at)
-settings-fits bytes at h =
-    record {
-      splits = number-below bytes at 4 h;
-      rounds = number-below bytes (at + 4) 4 h;
-      multiplier = number-below bytes (at + 8) 4 h;
-      min = action-fits bytes (at + 13) h;
-      max = action-fits bytes (at + 33) h;
-      initial = action-fits bytes (at + 53) h;
-      most = action-fits bytes (at + 73) h;
-      default = action-fits bytes (at + 93) h;
-    }
-
--- ---- what is not read
-pub zero-fits : T (fits binary64 cube.zero)
-unfolding fits
-zero-fits = tt
-
-pub plain-fits : ActionFits noAction
-plain-fits = record { multiplier = zero-fits; increment = record { sfits = omega arith }; delay = zero-fits }
-
+-- the upper ends
 pub ends-fit : PointFits cube.usualEnds
 unfolding fits
 ends-fit = record { acks = tt; sends = tt; ratios = tt }
-
--- ---- a trainer that is read from bytes
-given-fits : (bytes : List ℕ) → Bytes bytes → ActionFits (givenAction (settingsAt bytes 5))
-given-fits bytes h = settings-fits bytes 5 h .default
-
-place-fits : (lay : Layout) (bytes : List ℕ) (s i : ℕ) → Bytes bytes → ActionFits (actionIn (nodeAtPlace lay (givenAction (settingsAt bytes 5)) bytes s i))
-unfolding nodeAtPlace
-place-fits lay bytes s i h = go (ltb i (nodeCount s)) (carriedAt lay bytes s i)
-  where
-    go : (b c : Bool)
-        → ActionFits
-        (actionIn
-        (cond b
-        (cond c
-        (nodeHolding (actionAt bytes (payloadPlace lay bytes s i)) (linkOf bytes (listPlace lay) s i) (flagAt bytes (payloadPlace lay bytes s i + 20)))
-        (nodeHolding (givenAction (settingsAt bytes 5)) (linkOf bytes (listPlace lay) s i) false))
-        blankNode))
-    go true true = action-fits bytes (payloadPlace lay bytes s i) h
-    go true false = given-fits bytes h
-    go false c = plain-fits
 
 ends-read-fit : (lay : Layout) (bytes : List ℕ) (at : ℕ) → PointFits (endsAt lay bytes at)
 ends-read-fit lay bytes at = go (lay .ends)
@@ -94,14 +54,56 @@ ends-read-fit lay bytes at = go (lay .ends)
         }
     go false = ends-fit
 
+pub settings-fits : (lay : Layout) (bytes : List ℕ) (at : ℕ) → Bytes bytes → SettingsFits (settingsAt lay bytes at)
+settings-fits lay bytes at h =
+    record {
+      splits = number-below bytes at 4 h;
+      rounds = number-below bytes (at + 4) 4 h;
+      multiplier = number-below bytes (at + 8) 4 h;
+      min = action-fits bytes (at + 13) h;
+      max = action-fits bytes (at + 33) h;
+      initial = action-fits bytes (at + 53) h;
+      most = action-fits bytes (at + 73) h;
+      default = action-fits bytes (at + 93) h;
+      ends = ends-read-fit lay bytes (at + 113);
+    }
+
+-- ---- what is not read
+pub zero-fits : T (fits binary64 cube.zero)
+unfolding fits
+zero-fits = tt
+
+pub plain-fits : ActionFits noAction
+plain-fits = record { multiplier = zero-fits; increment = record { sfits = omega arith }; delay = zero-fits }
+
+-- ---- a trainer that is read from bytes
+given-fits : (lay : Layout) (bytes : List ℕ) → Bytes bytes → ActionFits (givenAction (settingsAt lay bytes 5))
+given-fits lay bytes h = settings-fits lay bytes 5 h .default
+
+place-fits : (lay : Layout) (bytes : List ℕ) (s i : ℕ) → Bytes bytes → ActionFits (actionIn (nodeAtPlace lay (givenAction (settingsAt lay bytes 5)) bytes s i))
+unfolding nodeAtPlace
+place-fits lay bytes s i h = go (ltb i (nodeCount s)) (carriedAt lay bytes s i)
+  where
+    go : (b c : Bool)
+        → ActionFits
+        (actionIn
+        (cond b
+        (cond c
+        (nodeHolding (actionAt bytes (payloadPlace lay bytes s i)) (linkOf bytes (listPlace lay) s i) (flagAt bytes (payloadPlace lay bytes s i + 20)))
+        (nodeHolding (givenAction (settingsAt lay bytes 5)) (linkOf bytes (listPlace lay) s i) false))
+        blankNode))
+    go true true = action-fits bytes (payloadPlace lay bytes s i) h
+    go true false = given-fits lay bytes h
+    go false c = plain-fits
+
 -- in every layout
 read-fits : (lay : Layout) (bytes : List ℕ) → Bytes bytes → TrainerFits (readIn lay bytes)
 read-fits lay bytes h =
     let s = splitCount lay bytes in
     let at = statePlace lay s in
-    let node = nodeAtPlace lay (givenAction (settingsAt bytes 5)) bytes s in
+    let node = nodeAtPlace lay (givenAction (settingsAt lay bytes 5)) bytes s in
     record {
-      settings = settings-fits bytes 5 h;
+      settings = settings-fits lay bytes 5 h;
       tree =
           record {
             full = length-tabulate 513 node;

@@ -9,12 +9,13 @@ use borrow.Author.Tests.{eq-eqb, le-leb}
 use lib.Dec.{eqb, leb}
 use lib.ListN.{length}
 use Rattle.rule_tree.specs.Grown.{grownOf}
-use Rattle.rule_tree_laws.proofs.Sound.{grown-sound}
-use Rattle.rule_tree.proofs.Plain.{and-l, and-r}
+use Rattle.rule_tree.proofs.Plain.{and-l, and-r, ends-same}
 use Rattle.trainer.specs.declared.Trainer.{Trainer}
 use Rattle.trainer.specs.declared.Answered.{Answered}
-use Rattle.trainer.specs.Settings.{settingsHold}
-use Rattle.trainer.specs.State.{acceptedOf, phaseHolds}
+use Rattle.trainer.specs.State.{boxHolds, acceptedOf}
+use Rattle.trainer.proofs.Holds.{parts as settings-parts}
+pub use Rattle.trainer.proofs.AcceptedFacts.{accepted-grown}
+use Rattle.trainer.proofs.AcceptedFacts.{accepted-box, accepted-settings}
 use Rattle.trainer.specs.Phases.{refuse, taken}
 use Rattle.trainer.specs.Calls.{blankTrainer}
 use Rattle.wire.specs.Bytes.{bytesOf, numberAt, sameBytes}
@@ -25,7 +26,7 @@ use Rattle.record.specs.Calls.{lengthHolds, versionHolds, againOf, bodyH
 use Rattle.wire.proofs.Bytes.{bytes-count, same-self, same-is}
 use Rattle.record.proofs.Size.{body-size, record-size, record-small}
 use Rattle.record.proofs.Stands.{stands-all, first, next, number-back, byte-back}
-use Rattle.record.proofs.RoundTrip.{TrainerFits, Carried, carried-parents, read-back}
+use Rattle.record.proofs.RoundTrip.{TrainerFits, Carried, carried-whole, read-back}
 
 -- ---- the ways through load
 module _ (bytes : List ℕ) where
@@ -45,10 +46,12 @@ module _ (bytes : List ℕ) where
   unfolding loadOf
   load-taken h v b = rw (h, v, b)
 
--- ---- an accepted trainer's tree is grown
-pub accepted-grown : (t : Trainer) → acceptedOf t ≡ true → grownOf (t .tree) ≡ true
-unfolding acceptedOf
-accepted-grown t h = and-l (grownOf (t .tree)) (phaseHolds t) (and-r (settingsHold (t .settings)) (grownOf (t .tree) && phaseHolds t) h)
+-- ---- an accepted trainer's tree has the settings' ends
+pub accepted-ends : (t : Trainer) → TrainerFits t → acceptedOf t ≡ true → t .tree .ends ≡ t .settings .ends
+unfolding boxHolds
+accepted-ends t f a =
+    ends-same (t .tree .ends) (t .settings .ends) (f .tree .ends) (f .settings .ends) (accepted-box t a)
+    (settings-parts (t .settings) (accepted-settings t a) .4)
 
 -- ---- what is written is taken back
 both : (x y : Bool) → x ≡ true → y ≡ true → (x && y) ≡ true
@@ -120,7 +123,7 @@ module _ (v : ℕ) (k : knownOf v ≡ true) (t : Trainer) (f : TrainerFits t) (a
   load-carried = sym (load-taken bytes written-length written-version written-body) ∙ ap taken read-same
 
 pub load-saved : (t : Trainer) → TrainerFits t → acceptedOf t ≡ true → loadOf (recordOf t) ≡ taken t
-load-saved t f a = load-carried version refl t f a (carried-parents (layoutOf version) t refl (λ z. grown-sound (t .tree) (f .tree) (accepted-grown t a) .ends))
+load-saved t f a = load-carried version refl t f a (carried-whole (layoutOf version) t refl refl (accepted-ends t f a))
 
 -- ---- what is taken is written again as the same bytes
 pub record Loaded (bytes : List ℕ) (t : Trainer) : Type 0 where

@@ -6,13 +6,14 @@ use Prim.Native.Nat.{ℕ, zero, suc, _+_, _*_, _/_, _%_, _^_, _<_, _≤_}
 use native.Mathlib.Nat.{pow-suc}
 use native.Mathlib.Omega.{arith}
 use borrow.Author.Tests.{eq-eqb, ne-eqb, eqb-true}
-use lib.Dec.{eqb}
-use lib.Ieee.{Float, nan, inf, fin, binary64, nanBits, isNan, toBits, ofBits, lt, eq}
+use lib.Dec.{T, eqb}
+use lib.Ieee.{Float, nan, inf, fin, binary64, nanBits, isNan, toBits, ofBits, lt, le, eq}
 use lib.Ieee.Bits.{nanBits-is}
 use lib.Ieee.Scale.{finite}
 use lib.ListN.{length, getD, take, drop}
 use lib.Seq.{take-suc}
 use Rattle.floats.proofs.Bits.{read-back}
+use Rattle.floats.proofs.Order.{le-nn-r}
 use Rattle.wire.specs.Bytes.{bytesOf, valueFrom, numberAt}
 use Rattle.record.specs.Accepted.{nanAccepted}
 use Rattle.wire.proofs.Bytes.{value-append, below-most, never}
@@ -140,6 +141,10 @@ unfolding lt
 not-nan-above nan y h e = never h
 not-nan-above (inf s) y h e = never (ap (lt (inf s)) (sym e) ∙ h)
 not-nan-above (fin s m k) y h e = never (ap (lt (fin s m k)) (sym e) ∙ h)
+
+pub not-nan-least : (y x : Float) → T (le y x) → x ≡ nan → ⊥
+unfolding isNan
+not-nan-least y x h e = le-nn-r y nan (subst (λ (z : Float). T (le y z)) e h)
 
 pub not-nan-equal : (x y : Float) → eq x y ≡ true → x ≡ nan → ⊥
 unfolding eq

@@ -15,11 +15,14 @@ use mir.Syntax.{w32}
 use mir.Val.{ofZ, toZ}
 use mir.ValLaws.{ofZ-toZ}
 use Rattle.remy.specs.Action.{validOf}
-use Rattle.remy.specs.Cube.{ack, send, ratio, usualEnds}
+use Rattle.remy.specs.Cube.{ack, send, ratio, leastEnd}
+use Rattle.remy.proofs.Ends.{ends-from-one}
 use Rattle.rule_tree.specs.Grown.{endsHold}
-use Rattle.rule_tree.proofs.Plain.{and-l, and-r}
+use Rattle.rule_tree.proofs.Plain.{and-l, and-r, ends-admitted}
 use Rattle.trainer.specs.declared.settings.Settings.{Settings}
-use Rattle.trainer.specs.Settings.{numbersHold, actionsHold, changesHold, axesHold, settingsHold}
+use Rattle.trainer.specs.Settings.{actionsHold, settingsHold}
+use Rattle.trainer.proofs.Holds.{parts}
+use Rattle.record.specs.declared.inner.layout.Layout.{Layout}
 use Rattle.wire.specs.Bytes.{bytesOf, numberAt, flagByte}
 use Rattle.wire.specs.Fields.{floatBytes, actionBytes, pointBytes}
 use Rattle.record.specs.Write.{settingsBytes, numbersBytes}
@@ -29,29 +32,29 @@ use Rattle.record.specs.Accepted.{flagAccepted}
 use Rattle.wire.proofs.Bytes.{bytes-count}
 use Rattle.record.proofs.Writing.{action-count}
 use Rattle.record.proofs.Stands.{Stands, moved}
-use Rattle.record.proofs.NumbersAgain.{Bytes, drop-bytes, bytes-again, number-below, Plain, plain-not-nan, not-nan-finite, not-nan-equal}
+use Rattle.record.proofs.NumbersAgain.{Bytes, drop-bytes, bytes-again, number-below, Plain, plain-not-nan, not-nan-finite, not-nan-least}
 
 -- the five actions of settings that hold
 pub record ActionsValid (s : Settings) : Type 0 where
   pub min : validOf (s .«min_action») ≡ true
   pub max : validOf (s .«max_action») ≡ true
-  pub initial : validOf (s .«initial_change») ≡ true
-  pub most : validOf (s .«max_change») ≡ true
+  pub initial : validOf (s .«initial_action_change») ≡ true
+  pub most : validOf (s .«max_action_change») ≡ true
   pub default : validOf (s .«default_action») ≡ true
 
 pub actions-valid : (s : Settings) → settingsHold s ≡ true → ActionsValid s
-unfolding settingsHold actionsHold
+unfolding actionsHold
 actions-valid s h =
-    let v = and-l (actionsHold s) (changesHold s && axesHold s) (and-r (numbersHold s) (actionsHold s && (changesHold s && axesHold s)) h) in
+    let v = parts s h .1 in
     let v1 = and-r (validOf (s .«min_action»)) _ v in
     let v2 = and-r (validOf (s .«max_action»)) _ v1 in
-    let v3 = and-r (validOf (s .«initial_change»)) _ v2 in
+    let v3 = and-r (validOf (s .«initial_action_change»)) _ v2 in
     record {
       min = and-l (validOf (s .«min_action»)) _ v;
       max = and-l (validOf (s .«max_action»)) _ v1;
-      initial = and-l (validOf (s .«initial_change»)) _ v2;
-      most = and-l (validOf (s .«max_change»)) _ v3;
-      default = and-r (validOf (s .«max_change»)) _ v3;
+      initial = and-l (validOf (s .«initial_action_change»)) _ v2;
+      most = and-l (validOf (s .«max_action_change»)) _ v3;
+      default = and-r (validOf (s .«max_action_change»)) _ v3;
     }
 
 module _ (bytes : List ℕ) where
@@ -128,40 +131,39 @@ module _ (bytes : List ℕ) where
         (float-stands (at + 12) (omega arith) (plain-not-nan _ (float-below (at + 12)) (not-nan-finite _ (and-l (finite (floatAt bytes (at + 12))) _ r))))))
 
     pub point-stands : (at : ℕ) → at + 24 ≤ length bytes → endsHold (pointAt bytes at) ≡ true → Stands bytes at (pointBytes (pointAt bytes at))
-    unfolding endsHold
     point-stands at l h =
         let p = pointAt bytes at in
         let a = floatBytes (ack p) in
         let d = floatBytes (send p) in
         let e = floatBytes (ratio p) in
-        let r = and-r (eq (ack p) (ack usualEnds)) _ h in
+        let r = ends-from-one p (ends-admitted p h) in
         joined at 8 a (d ++ e) (bytes-count 8 _)
-        (float-stands at (omega arith) (plain-not-nan _ (float-below at) (not-nan-equal _ _ (and-l (eq (ack p) (ack usualEnds)) _ h))))
+        (float-stands at (omega arith) (plain-not-nan _ (float-below at) (not-nan-least leastEnd _ (r .0))))
         (then at 8 8 16 d e (bytes-count 8 _) refl
-        (float-stands (at + 8) (omega arith) (plain-not-nan _ (float-below (at + 8)) (not-nan-equal _ _ (and-l (eq (send p) (send usualEnds)) _ r))))
-        (float-stands (at + 16) (omega arith) (plain-not-nan _ (float-below (at + 16)) (not-nan-equal _ _ (and-r (eq (send p) (send usualEnds)) _ r)))))
+        (float-stands (at + 8) (omega arith) (plain-not-nan _ (float-below (at + 8)) (not-nan-least leastEnd _ (r .1 .0))))
+        (float-stands (at + 16) (omega arith) (plain-not-nan _ (float-below (at + 16)) (not-nan-least leastEnd _ (r .1 .1)))))
 
     -- ---- the settings
-    pub settings-stand : (at : ℕ) → at + 113 ≤ length bytes → settingsHold (settingsAt bytes at) ≡ true → flagAccepted bytes (at + 12) ≡ true
-        → Stands bytes at (settingsBytes (settingsAt bytes at))
-    settings-stand at l h f =
-        let s = settingsAt bytes at in
+    pub settings-stand : (lay : Layout) (at : ℕ) → at + 113 ≤ length bytes → settingsHold (settingsAt lay bytes at) ≡ true → flagAccepted bytes (at + 12) ≡ true
+        → Stands bytes at (settingsBytes (settingsAt lay bytes at))
+    settings-stand lay at l h f =
+        let s = settingsAt lay bytes at in
         let v = actions-valid s h in
         let m = actionBytes (s .«min_action») in
         let n = actionBytes (s .«max_action») in
-        let i = actionBytes (s .«initial_change») in
-        let j = actionBytes (s .«max_change») in
+        let i = actionBytes (s .«initial_action_change») in
+        let j = actionBytes (s .«max_action_change») in
         let d = actionBytes (s .«default_action») in
-        let w = flagByte (s .drill) ∷ [] in
+        let w = flagByte (s .«drill_down») ∷ [] in
         let h93 = action-stands (at + 93) (omega arith) (v .default) in
-        let h73 = then at 73 20 93 j d (action-count (s .«max_change»)) refl (action-stands (at + 73) (omega arith) (v .most)) h93 in
-        let h53 = then at 53 20 73 i (j ++ d) (action-count (s .«initial_change»)) refl (action-stands (at + 53) (omega arith) (v .initial)) h73 in
+        let h73 = then at 73 20 93 j d (action-count (s .«max_action_change»)) refl (action-stands (at + 73) (omega arith) (v .most)) h93 in
+        let h53 = then at 53 20 73 i (j ++ d) (action-count (s .«initial_action_change»)) refl (action-stands (at + 53) (omega arith) (v .initial)) h73 in
         let h33 = then at 33 20 53 n (i ++ (j ++ d)) (action-count (s .«max_action»)) refl (action-stands (at + 33) (omega arith) (v .max)) h53 in
         let h13 = then at 13 20 33 m (n ++ (i ++ (j ++ d))) (action-count (s .«min_action»)) refl (action-stands (at + 13) (omega arith) (v .min)) h33 in
         let h12 = then at 12 1 13 w (m ++ (n ++ (i ++ (j ++ d)))) refl refl (flag-stands (at + 12) (omega arith) f) h13 in
-        let h8 = then at 8 4 12 (bytesOf 4 (s .multiplier)) (w ++ (m ++ (n ++ (i ++ (j ++ d))))) (bytes-count 4 _) refl (number-stands-again (at + 8) 4 (omega arith)) h12 in
-        let h4 = then at 4 4 8 (bytesOf 4 (s .rounds)) (bytesOf 4 (s .multiplier) ++ (w ++ (m ++ (n ++ (i ++ (j ++ d)))))) (bytes-count 4 _) refl (number-stands-again (at + 4) 4 (omega arith)) h8 in
-        joined at 4 (bytesOf 4 (s .«rule_splits»)) (bytesOf 4 (s .rounds) ++ (bytesOf 4 (s .multiplier) ++ (w ++ (m ++ (n ++ (i ++ (j ++ d))))))) (bytes-count 4 _)
+        let h8 = then at 8 4 12 (bytesOf 4 (s .«action_change_multiplier»)) (w ++ (m ++ (n ++ (i ++ (j ++ d))))) (bytes-count 4 _) refl (number-stands-again (at + 8) 4 (omega arith)) h12 in
+        let h4 = then at 4 4 8 (bytesOf 4 (s .«optimization_rounds_per_split»)) (bytesOf 4 (s .«action_change_multiplier») ++ (w ++ (m ++ (n ++ (i ++ (j ++ d)))))) (bytes-count 4 _) refl (number-stands-again (at + 4) 4 (omega arith)) h8 in
+        joined at 4 (bytesOf 4 (s .«rule_splits»)) (bytesOf 4 (s .«optimization_rounds_per_split») ++ (bytesOf 4 (s .«action_change_multiplier») ++ (w ++ (m ++ (n ++ (i ++ (j ++ d))))))) (bytes-count 4 _)
         (number-stands-again at 4 (omega arith)) h4
 
     -- ---- a list of numbers

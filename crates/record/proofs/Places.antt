@@ -28,7 +28,7 @@ module _ (lay : Layout) (v : ℕ) (t : Trainer) (g : grownOf (t .tree) ≡ true)
   nodes = payloadBytes lay (t .tree .nodes) (nodeCount s)
 
   abbrev after : List ℕ
-  after = endBytes lay (t .tree) ++ (splitsBytes (t .tree) ++ (nodes ++ stateBytes t))
+  after = endBytes lay (t .settings) ++ (splitsBytes (t .tree) ++ (nodes ++ stateBytes t))
 
   body-place : Stands bytes 4 (bodyIn lay v t)
   unfolding recordIn
@@ -41,7 +41,7 @@ module _ (lay : Layout) (v : ℕ) (t : Trainer) (g : grownOf (t .tree) ≡ true)
   from-ends = next bytes 5 113 (settingsBytes (t .settings)) after (settings-count (t .settings)) from-settings
 
   from-splits : Stands bytes (118 + endsSize lay) (splitsBytes (t .tree) ++ (nodes ++ stateBytes t))
-  from-splits = next bytes 118 (endsSize lay) (endBytes lay (t .tree)) (splitsBytes (t .tree) ++ (nodes ++ stateBytes t)) (ends-count lay (t .tree)) from-ends
+  from-splits = next bytes 118 (endsSize lay) (endBytes lay (t .settings)) (splitsBytes (t .tree) ++ (nodes ++ stateBytes t)) (ends-count lay (t .settings)) from-ends
 
   from-nodes : Stands bytes (nodesPlace lay s) (nodes ++ stateBytes t)
   from-nodes =
@@ -51,8 +51,8 @@ module _ (lay : Layout) (v : ℕ) (t : Trainer) (g : grownOf (t .tree) ≡ true)
   pub settings-place : Stands bytes 5 (settingsBytes (t .settings))
   settings-place = first bytes 5 (settingsBytes (t .settings)) after from-settings
 
-  pub ends-place : Stands bytes 118 (endBytes lay (t .tree))
-  ends-place = first bytes 118 (endBytes lay (t .tree)) (splitsBytes (t .tree) ++ (nodes ++ stateBytes t)) from-ends
+  pub ends-place : Stands bytes 118 (endBytes lay (t .settings))
+  ends-place = first bytes 118 (endBytes lay (t .settings)) (splitsBytes (t .tree) ++ (nodes ++ stateBytes t)) from-ends
 
   pub splits-place : Stands bytes (118 + endsSize lay) (splitsBytes (t .tree))
   splits-place = first bytes (118 + endsSize lay) (splitsBytes (t .tree)) (nodes ++ stateBytes t) from-splits

@@ -164,37 +164,39 @@ module _ (lay : Layout) (bytes : List ℕ) (at : ℕ) where
   ends-given z e = e ∙ ap (λ (b : Bool). cond b (pointAt bytes at) usualEnds) (sym z)
 
 -- ---- the settings, the trainer: from their fields
-pub settings-read : (bytes : List ℕ) (at : ℕ) {a b c : ℕ} {d : Bool} {e f g h k : Action} → a ≡ numberAt bytes at 4 → b ≡ numberAt bytes (at + 4) 4
+pub settings-read : (lay : Layout) (bytes : List ℕ) (at : ℕ) {a b c : ℕ} {d : Bool} {e f g h k : Action} {p : Point} → a ≡ numberAt bytes at 4 → b ≡ numberAt bytes (at + 4) 4
     → c ≡ numberAt bytes (at + 8) 4 → d ≡ flagAt bytes (at + 12) → e ≡ actionAt bytes (at + 13) → f ≡ actionAt bytes (at + 33)
-    → g ≡ actionAt bytes (at + 53) → h ≡ actionAt bytes (at + 73) → k ≡ actionAt bytes (at + 93)
+    → g ≡ actionAt bytes (at + 53) → h ≡ actionAt bytes (at + 73) → k ≡ actionAt bytes (at + 93) → p ≡ endsAt lay bytes (at + 113)
     → _≡_ {A = Settings}
     (record {
       «rule_splits» = a;
-      rounds = b;
-      multiplier = c;
-      drill = d;
+      «optimization_rounds_per_split» = b;
+      «action_change_multiplier» = c;
+      «drill_down» = d;
       «min_action» = e;
       «max_action» = f;
-      «initial_change» = g;
-      «max_change» = h;
+      «initial_action_change» = g;
+      «max_action_change» = h;
       «default_action» = k;
+      ends = p;
     })
-    (settingsAt bytes at)
-settings-read bytes at a b c d e f g h k =
+    (settingsAt lay bytes at)
+settings-read lay bytes at a b c d e f g h k p =
     λ j.
     record {
       «rule_splits» = a j;
-      rounds = b j;
-      multiplier = c j;
-      drill = d j;
+      «optimization_rounds_per_split» = b j;
+      «action_change_multiplier» = c j;
+      «drill_down» = d j;
       «min_action» = e j;
       «max_action» = f j;
-      «initial_change» = g j;
-      «max_change» = h j;
+      «initial_action_change» = g j;
+      «max_action_change» = h j;
       «default_action» = k j;
+      ends = p j;
     }
 
-pub trainer-read : (lay : Layout) (bytes : List ℕ) (s at : ℕ) {a : Settings} {b : RuleTree} {c d e f h i : ℕ} {g k : Float} → at ≡ statePlace lay s → a ≡ settingsAt bytes 5 → b ≡ treeAt lay (givenAction (settingsAt bytes 5)) bytes s
+pub trainer-read : (lay : Layout) (bytes : List ℕ) (s at : ℕ) {a : Settings} {b : RuleTree} {c d e f h i : ℕ} {g k : Float} → at ≡ statePlace lay s → a ≡ settingsAt lay bytes 5 → b ≡ treeAt lay (givenAction (settingsAt lay bytes 5)) bytes s
     → c ≡ getD bytes at 0 → d ≡ numberAt bytes (at + 1) 4 → e ≡ numberAt bytes (at + 5) 4
     → f ≡ numberAt bytes (at + 9) 2 → g ≡ floatAt bytes (at + 11) → h ≡ numberAt bytes (at + 19) 2
     → i ≡ numberAt bytes (at + 21) 2 → k ≡ floatAt bytes (at + 23)
@@ -226,11 +228,11 @@ trainer-read lay bytes s at z a b c d e f g h i k =
       kept = i j;
       «kept_score» = k j;
     })
-    ∙ ap (stateAt (settingsAt bytes 5) (treeAt lay (givenAction (settingsAt bytes 5)) bytes s) bytes) z
+    ∙ ap (stateAt (settingsAt lay bytes 5) (treeAt lay (givenAction (settingsAt lay bytes 5)) bytes s) bytes) z
 
 -- the tree, with what the settings give a parent that is not written
-pub tree-given : (lay : Layout) (bytes : List ℕ) (s : ℕ) (set : Settings) (a : Action) {b : RuleTree} → set ≡ settingsAt bytes 5 → a ≡ givenAction set
-    → b ≡ treeAt lay a bytes s → b ≡ treeAt lay (givenAction (settingsAt bytes 5)) bytes s
+pub tree-given : (lay : Layout) (bytes : List ℕ) (s : ℕ) (set : Settings) (a : Action) {b : RuleTree} → set ≡ settingsAt lay bytes 5 → a ≡ givenAction set
+    → b ≡ treeAt lay a bytes s → b ≡ treeAt lay (givenAction (settingsAt lay bytes 5)) bytes s
 tree-given lay bytes s set a e ea eb =
     eb ∙ ap (λ (x : Action). treeAt lay x bytes s) (ea ∙ ap givenAction e)
 

@@ -17,7 +17,7 @@ use Rattle.rule_tree.proofs.Links as links
 use Rattle.rule_tree.proofs.Plain.{and-l, and-r}
 use Rattle.trainer.specs.declared.Trainer.{Trainer}
 use Rattle.trainer.specs.Settings.{settingsHold}
-use Rattle.trainer.specs.State.{phaseHolds, acceptedOf}
+use Rattle.trainer.specs.State.{boxHolds, phaseHolds, acceptedOf}
 use Rattle.record.specs.declared.inner.layout.Layout.{Layout}
 use Rattle.wire.specs.Bytes.{bytesOf, numberAt, flagByte}
 use Rattle.record.specs.Layout.{givenAction, nodesPlace, statePlace}
@@ -53,7 +53,7 @@ module _ (lay : Layout) (v : ℕ) (bytes : List ℕ) (all : Bytes bytes) (a : ac
   s = splitCount lay bytes
 
   abbrev given : Action
-  given = givenAction (settingsAt bytes 5)
+  given = givenAction (settingsAt lay bytes 5)
 
   abbrev nodes : List Node
   nodes = tabulate 513 (nodeAtPlace lay given bytes s)
@@ -72,11 +72,13 @@ module _ (lay : Layout) (v : ℕ) (bytes : List ℕ) (all : Bytes bytes) (a : ac
 
   holds : phaseHolds t ≡ true
   unfolding acceptedOf
-  holds = and-r (grownOf (t .tree)) (phaseHolds t) (and-r (settingsHold (t .settings)) (grownOf (t .tree) && phaseHolds t) a)
+  holds =
+      and-r (boxHolds t) (phaseHolds t)
+      (and-r (grownOf (t .tree)) (boxHolds t && phaseHolds t) (and-r (settingsHold (t .settings)) (grownOf (t .tree) && (boxHolds t && phaseHolds t)) a))
 
-  settled : settingsHold (settingsAt bytes 5) ≡ true
+  settled : settingsHold (settingsAt lay bytes 5) ≡ true
   unfolding acceptedOf
-  settled = and-l (settingsHold (t .settings)) (grownOf (t .tree) && phaseHolds t) a
+  settled = and-l (settingsHold (t .settings)) (grownOf (t .tree) && (boxHolds t && phaseHolds t)) a
 
   settings-in : Stands bytes 5 (settingsBytes (t .settings))
   settings-in = subst (λ (r : List ℕ). Stands r 5 (settingsBytes (t .settings))) again (settings-place lay v t grown full)
@@ -84,11 +86,11 @@ module _ (lay : Layout) (v : ℕ) (bytes : List ℕ) (all : Bytes bytes) (a : ac
   drill-in : flagAccepted bytes 17 ≡ true
   drill-in =
       let b = bytesOf 4 (t .settings .«rule_splits») in
-      let d = bytesOf 4 (t .settings .rounds) in
-      let e = bytesOf 4 (t .settings .multiplier) in
+      let d = bytesOf 4 (t .settings .«optimization_rounds_per_split») in
+      let e = bytesOf 4 (t .settings .«action_change_multiplier») in
       let h4 = next bytes 5 4 b (d ++ (e ++ _)) (bytes-count 4 _) settings-in in
       let h8 = onward bytes 5 4 4 8 d (e ++ _) (bytes-count 4 _) refl h4 in
-      flag-place bytes 17 (t .settings .drill) _ (onward bytes 5 8 4 12 e _ (bytes-count 4 _) refl h8)
+      flag-place bytes 17 (t .settings .«drill_down») _ (onward bytes 5 8 4 12 e _ (bytes-count 4 _) refl h8)
 
   mark-in : (i : ℕ) → i < nodeCount s → carriedAt lay bytes s i ≡ true → flagAccepted bytes (payloadPlace lay bytes s i + 20) ≡ true
   mark-in i l c =
@@ -127,7 +129,6 @@ module _ (lay : Layout) (v : ℕ) (bytes : List ℕ) (all : Bytes bytes) (a : ac
         size = sym (ap length again) ∙ record-size lay v t grown full;
         settings = settled;
         drill = drill-in;
-        ends = links.grown-ends-hold (treeAt lay given bytes s) grown;
         splits = linked-splits lay given bytes s few grown;
         nodes = nodes-from lay given bytes s few grown mark-in;
         state = state-is lay given bytes s (statePlace lay s) few all ∙ both;

@@ -57,9 +57,9 @@ small-action-then a h = small-join (actionBytes a) (small-action a) h
 
 small-settings : (s : Settings) → Small (settingsBytes s)
 small-settings s =
-    small-then 4 _ (small-then 4 _ (small-then 4 _ (small-flag (s .drill)
+    small-then 4 _ (small-then 4 _ (small-then 4 _ (small-flag (s .«drill_down»)
     (small-action-then (s .«min_action») (small-action-then (s .«max_action»)
-    (small-action-then (s .«initial_change») (small-action-then (s .«max_change»)
+    (small-action-then (s .«initial_action_change») (small-action-then (s .«max_action_change»)
     (small-action (s .«default_action»)))))))))
 
 small-list : (xs : List ℕ) → Small (numbersBytes xs)
@@ -67,10 +67,10 @@ unfolding numbersBytes
 small-list [] = small-none
 small-list (x ∷ xs) = small-then 2 x (small-list xs)
 
-small-ends : (lay : Layout) (t : RuleTree) → Small (endBytes lay t)
-small-ends lay t = go (lay .ends)
+small-ends : (lay : Layout) (s : Settings) → Small (endBytes lay s)
+small-ends lay s = go (lay .ends)
   where
-    go : (b : Bool) → Small (cond b (pointBytes (t .ends)) [])
+    go : (b : Bool) → Small (cond b (pointBytes (s .ends)) [])
     go true = small-then 8 _ (small-then 8 _ (small-number 8 _))
     go false = small-none
 
@@ -96,7 +96,7 @@ small-record lay v t l p =
     small-then 4 (length (bodyIn lay v t))
     (small-cons l
     (small-join (settingsBytes (t .settings)) (small-settings (t .settings))
-    (small-join (endBytes lay (t .tree)) (small-ends lay (t .tree))
+    (small-join (endBytes lay (t .settings)) (small-ends lay (t .settings))
     (small-join (splitsBytes (t .tree)) (small-then 2 (t .tree .splits) (small-list (take (t .tree .splits) (splitNodes (childrenOf (t .tree .nodes))))))
     (small-join (payloadBytes lay (t .tree .nodes) (nodeCount (t .tree .splits))) (small-payload lay (t .tree .nodes) (nodeCount (t .tree .splits)))
     (small-state t p))))))

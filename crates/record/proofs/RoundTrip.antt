@@ -52,7 +52,8 @@ pub record TrainerFits (t : Trainer) : Type 0 where
 pub record Carried (lay : Layout) (t : Trainer) : Type 0 where
   pub parents : (i : ℕ) → i < 513 → carried lay (t .tree .nodes) i ≡ false
       → nodeAt (t .tree .nodes) i ≡ nodeHolding (givenAction (t .settings)) (kids (t .tree) i) false
-  pub ends : lay .ends ≡ false → t .tree .ends ≡ usualEnds
+  pub ends : lay .ends ≡ false → t .settings .ends ≡ usualEnds
+  pub box : t .tree .ends ≡ t .settings .ends
 
 module _ (lay : Layout) (v : ℕ) (t : Trainer) (f : TrainerFits t) (g : grownOf (t .tree) ≡ true) (can : Carried lay t) where
   full : length (t .tree .nodes) ≡ 513
@@ -173,13 +174,13 @@ module _ (lay : Layout) (v : ℕ) (t : Trainer) (f : TrainerFits t) (g : grownOf
       by b false e = given-back i b e
 
   -- ---- the ends
-  ends-back : t .tree .ends ≡ endsAt lay bytes 118
+  ends-back : t .settings .ends ≡ endsAt lay bytes 118
   ends-back = by (lay .ends) refl
     where
-      by : (b : Bool) → lay .ends ≡ b → t .tree .ends ≡ endsAt lay bytes 118
+      by : (b : Bool) → lay .ends ≡ b → t .settings .ends ≡ endsAt lay bytes 118
       by true e =
           ends-read lay bytes 118 e
-          (sym (point-back bytes 118 (t .tree .ends) (f .tree .ends) (subst (λ (b : Bool). Stands bytes 118 (cond b (pointBytes (t .tree .ends)) [])) e (ends-place lay v t g full))))
+          (sym (point-back bytes 118 (t .settings .ends) (f .settings .ends) (subst (λ (b : Bool). Stands bytes 118 (cond b (pointBytes (t .settings .ends)) [])) e (ends-place lay v t g full))))
       by false e = ends-given lay bytes 118 e (can .ends e)
 
   tree-back : t .tree ≡ treeAt lay given bytes s
@@ -187,12 +188,12 @@ module _ (lay : Layout) (v : ℕ) (t : Trainer) (f : TrainerFits t) (g : grownOf
       tree-read lay given bytes s
       (ext-getD noNode (t .tree .nodes) (tabulate 513 (nodeAtPlace lay given bytes s)) (full ∙ sym (length-tabulate 513 (nodeAtPlace lay given bytes s)))
       (λ i l. node-back i (omega (arith, full)) ∙ sym (getD-tabulate 513 i (nodeAtPlace lay given bytes s) noNode (omega (arith, full)))))
-      ends-back
+      (can .box ∙ ends-back)
 
-  settings-same : t .settings ≡ settingsAt bytes 5
+  settings-same : t .settings ≡ settingsAt lay bytes 5
   settings-same =
-      settings-back bytes 5 (t .settings) (f .settings)
-      (settings-place lay v t g full)
+      settings-back lay bytes 5 (t .settings) (f .settings)
+      (settings-place lay v t g full) ends-back
 
   -- ---- the state
   state-stands : Stands bytes (statePlace lay s) (stateBytes t)
@@ -232,17 +233,19 @@ module _ (lay : Layout) (v : ℕ) (t : Trainer) (f : TrainerFits t) (g : grownOf
 
 -- ---- which trainers a layout carries
 -- one that writes every node and the ends carries every trainer
-pub carried-whole : (lay : Layout) (t : Trainer) → lay .parents ≡ true → lay .ends ≡ true → Carried lay t
-carried-whole lay t p e =
+pub carried-whole : (lay : Layout) (t : Trainer) → lay .parents ≡ true → lay .ends ≡ true → t .tree .ends ≡ t .settings .ends → Carried lay t
+carried-whole lay t p e b =
     record {
       parents = λ i l z. absurd (never (sym z ∙ ap (λ (b : Bool). b || eqb (kids (t .tree) i) 0) p));
       ends = λ z. absurd (never (sym z ∙ e));
+      box = b;
     }
 
 -- one that writes every node carries every trainer whose ends it carries
-pub carried-parents : (lay : Layout) (t : Trainer) → lay .parents ≡ true → (lay .ends ≡ false → t .tree .ends ≡ usualEnds) → Carried lay t
-carried-parents lay t p e =
+pub carried-parents : (lay : Layout) (t : Trainer) → lay .parents ≡ true → (lay .ends ≡ false → t .settings .ends ≡ usualEnds) → t .tree .ends ≡ t .settings .ends → Carried lay t
+carried-parents lay t p e b =
     record {
       parents = λ i l z. absurd (never (sym z ∙ ap (λ (b : Bool). b || eqb (kids (t .tree) i) 0) p));
       ends = e;
+      box = b;
     }

@@ -15,7 +15,7 @@ use Rattle.rule_tree_laws.proofs.Sound.{grown-sound}
 use Rattle.trainer.specs.declared.Trainer.{Trainer}
 use Rattle.trainer.specs.declared.Answered.{Answered}
 use Rattle.trainer.specs.Settings.{settingsHold}
-use Rattle.trainer.specs.State.{phaseHolds, acceptedOf}
+use Rattle.trainer.specs.State.{boxHolds, phaseHolds, acceptedOf}
 use Rattle.trainer.specs.Phases.{refuse, taken}
 use Rattle.trainer.specs.Calls.{blankTrainer}
 use Rattle.record.specs.Layout.{layoutOf, knownOf}
@@ -24,8 +24,8 @@ use Rattle.record.specs.Read.{readOf}
 use Rattle.record.specs.Calls.{lengthHolds, versionHolds, loadOf}
 use Rattle.record.specs.Accepted.{acceptedBytes}
 use Rattle.wire.proofs.Bytes.{never}
-use Rattle.record.proofs.RoundTrip.{TrainerFits, Carried, carried-parents}
-use Rattle.record.proofs.Loading.{accepted-grown, load-carried}
+use Rattle.record.proofs.RoundTrip.{TrainerFits, Carried, carried-whole}
+use Rattle.record.proofs.Loading.{accepted-ends, load-carried}
 use Rattle.record.proofs.NumbersAgain.{Bytes}
 use Rattle.record.proofs.AcceptedBytes.{load-exactly}
 use Rattle.record.proofs.RecordBytes.{record-bytes}
@@ -52,7 +52,7 @@ phase-few t h =
     let no : (k : ℕ) → k < 8 → eqb (t .phase) k ≡ false = (λ k b. ne-eqb (t .phase) k (λ z. absurd (let w : t .phase ≡ k = z in omega arith))) in
     absurd (never
     (rw (no 1 (omega arith), no 2 (omega arith), no 3 (omega arith), no 4 (omega arith), no 5 (omega arith), no 6 (omega arith), no 7 (omega arith)) at
-    (and-r (grownOf (t .tree)) (phaseHolds t) (and-r (settingsHold (t .settings)) (grownOf (t .tree) && phaseHolds t) h)))))
+    (and-r (boxHolds t) (phaseHolds t) (and-r (grownOf (t .tree)) (boxHolds t && phaseHolds t) (and-r (settingsHold (t .settings)) (grownOf (t .tree) && (boxHolds t && phaseHolds t)) h))))))
     (below-or-not (t .phase) 8)
 
 -- ---- so that the rules hold of it
@@ -66,4 +66,4 @@ carried-accepted v k t f a can =
 pub saved-accepted : (t : Trainer) → TrainerFits t → acceptedOf t ≡ true → acceptedBytes (recordOf t) ≡ true
 saved-accepted t f a =
     carried-accepted version refl t f a
-    (carried-parents (layoutOf version) t refl (λ z. grown-sound (t .tree) (f .tree) (accepted-grown t a) .ends))
+    (carried-whole (layoutOf version) t refl refl (accepted-ends t f a))

@@ -20,6 +20,7 @@ use Rattle.rule_tree.proofs.Lists.{length-tabulate}
 use Rattle.rule_tree.proofs.LinkWays.{children-at}
 use Rattle.rule_tree.proofs.Owners.{same-or-not}
 use Rattle.rule_tree.proofs.Links as links
+use Rattle.trainer.specs.declared.settings.Settings.{Settings}
 use Rattle.trainer.specs.declared.Trainer.{Trainer}
 use Rattle.record.specs.declared.inner.layout.Layout.{Layout}
 use Rattle.wire.specs.Bytes.{bytesOf}
@@ -29,7 +30,7 @@ use Rattle.record.specs.Write.{settingsBytes, splitsBytes, numbersBytes,
 use Rattle.record.specs.Parts.{nodeFields}
 use Rattle.wire.proofs.Bytes.{bytes-count}
 use Rattle.wire.proofs.Stores.{wrote}
-use Rattle.record.proofs.Layouts.{size-most, size-second}
+use Rattle.record.proofs.Layouts.{size-most, size-third}
 use Rattle.record.proofs.Writing.{settings-count, state-count, list-count, point-count}
 
 -- ---- sums over the splits
@@ -190,12 +191,12 @@ payload-count lay nodes (suc n) =
     let e = node-length (carried lay nodes n) (nodeAt nodes n) in
     length-append (payloadBytes lay nodes n) (nodeFields lay (nodeAt nodes n)) ∙ (omega arith)
 
-pub ends-count : (lay : Layout) (t : RuleTree) → length (endBytes lay t) ≡ endsSize lay
+pub ends-count : (lay : Layout) (s : Settings) → length (endBytes lay s) ≡ endsSize lay
 unfolding endsSize
-ends-count lay t = go (lay .ends)
+ends-count lay s = go (lay .ends)
   where
-    go : (b : Bool) → length (cond b (pointBytes (t .ends)) []) ≡ cond b 24 0
-    go true = point-count (t .ends)
+    go : (b : Bool) → length (cond b (pointBytes (s .ends)) []) ≡ cond b 24 0
+    go true = point-count (s .ends)
     go false = refl
 
 pub splits-count : (t : RuleTree) → t .splits ≤ 64 → length (splitsBytes t) ≡ 2 + 2 * t .splits
@@ -218,11 +219,11 @@ module _ (lay : Layout) (v : ℕ) (t : Trainer) (g : grownOf (t .tree) ≡ true)
   pub body-size : 4 + length (bodyIn lay v t) ≡ sizeIn lay (t .tree .splits)
   body-size =
       let a = settings-count (t .settings) in
-      let b = ends-count lay (t .tree) in
+      let b = ends-count lay (t .settings) in
       let d = splits-count (t .tree) (few (t .tree) g full) in
       let e = nodes-length in
       let f = state-count t in
-      let j = joined-count v (settingsBytes (t .settings)) (endBytes lay (t .tree)) (splitsBytes (t .tree)) (payloadBytes lay (t .tree .nodes) (nodeCount (t .tree .splits))) (stateBytes t) in
+      let j = joined-count v (settingsBytes (t .settings)) (endBytes lay (t .settings)) (splitsBytes (t .tree)) (payloadBytes lay (t .tree .nodes) (nodeCount (t .tree .splits))) (stateBytes t) in
       ap (λ (k : ℕ). 4 + k) j ∙ (omega arith)
 
   pub record-size : length (recordIn lay v t) ≡ sizeIn lay (t .tree .splits)
@@ -234,18 +235,15 @@ module _ (lay : Layout) (v : ℕ) (t : Trainer) (g : grownOf (t .tree) ≡ true)
   record-small = let e = record-size in let m = size-most lay (t .tree .splits) (few (t .tree) g full) in omega arith
 
 module _ (t : Trainer) (g : grownOf (t .tree) ≡ true) (full : length (t .tree .nodes) ≡ 513) where
-  -- a record of s splits has 172 + 170 s bytes
-  pub record-count : length (recordOf t) ≡ 172 + 170 * t .tree .splits
-  record-count = record-size (layoutOf version) version t g full ∙ size-second (t .tree .splits)
+  -- a record of s splits has 196 + 170 s bytes
+  pub record-count : length (recordOf t) ≡ 196 + 170 * t .tree .splits
+  record-count = record-size (layoutOf version) version t g full ∙ size-third (t .tree .splits)
 
-  pub record-fresh : t .tree .splits ≡ 0 → length (recordOf t) ≡ 172
+  pub record-fresh : t .tree .splits ≡ 0 → length (recordOf t) ≡ 196
   record-fresh e = let h = record-count in omega arith
 
-  pub record-most : t .tree .splits ≡ 64 → length (recordOf t) ≡ 11052
+  pub record-most : t .tree .splits ≡ 64 → length (recordOf t) ≡ 11076
   record-most e = let h = record-count in omega arith
-
-  pub record-fits : length (recordOf t) ≤ 11052
-  record-fits = let h = record-count in let l = few (t .tree) g full in omega arith
 
 -- ---- the record, part after part
 wrote0 : (l m : List ℕ) (n : ℕ) (xs ys : List ℕ) {r : List ℕ} → r ≡ sets m n ys → m ≡ sets l 0 xs → length xs ≡ n → r ≡ sets l 0 (xs ++ ys)
@@ -256,7 +254,7 @@ regroup b v s e p q r = simp append-assoc
 
 module _ (l : List ℕ) (lay : Layout) (v : ℕ) (t : Trainer) (g : grownOf (t .tree) ≡ true) (full : length (t .tree .nodes) ≡ 513) where
   pub record-written : (n after at : ℕ) {l1 l2 l3 l4 l5 l6 : List ℕ} → 4 + n ≡ sizeIn lay (t .tree .splits) → l1 ≡ sets l 0 (bytesOf 4 n)
-      → l2 ≡ sets (set l1 4 v) 5 (settingsBytes (t .settings)) → l3 ≡ sets l2 118 (endBytes lay (t .tree)) → after ≡ 118 + endsSize lay
+      → l2 ≡ sets (set l1 4 v) 5 (settingsBytes (t .settings)) → l3 ≡ sets l2 118 (endBytes lay (t .settings)) → after ≡ 118 + endsSize lay
       → l4 ≡ sets l3 after (splitsBytes (t .tree))
       → l5 ≡ sets l4 (after + 2 + 2 * t .tree .splits) (payloadBytes lay (t .tree .nodes) (nodeCount (t .tree .splits)))
       → at ≡ after + 2 + 2 * t .tree .splits + length (payloadBytes lay (t .tree .nodes) (nodeCount (t .tree .splits)))
@@ -266,12 +264,12 @@ module _ (l : List ℕ) (lay : Layout) (v : ℕ) (t : Trainer) (g : grownOf (t .
       let b = bytesOf 4 n in
       let o = v ∷ [] in
       let x = settingsBytes (t .settings) in
-      let d = endBytes lay (t .tree) in
+      let d = endBytes lay (t .settings) in
       let y = splitsBytes (t .tree) in
       let z = payloadBytes lay (t .tree .nodes) (nodeCount (t .tree .splits)) in
       let cb = bytes-count 4 n in
       let cx = settings-count (t .settings) in
-      let cd = ends-count lay (t .tree) in
+      let cd = ends-count lay (t .settings) in
       let cy = splits-count (t .tree) (few (t .tree) g full) in
       let e1 : length (b ++ o) ≡ 5 = length-append b o ∙ (omega arith) in
       let e2 : length ((b ++ o) ++ x) ≡ 118 = length-append (b ++ o) x ∙ (omega arith) in

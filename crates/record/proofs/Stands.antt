@@ -26,7 +26,7 @@ use Rattle.wire.specs.Bytes.{bytesOf, numberAt, flagByte}
 use Rattle.wire.specs.Fields.{floatBytes, actionBytes, pointBytes}
 use Rattle.record.specs.Write.{settingsBytes, numbersBytes, nodeBytes, payloadBytes}
 use Rattle.wire.specs.Fields.{floatAt, actionAt, flagAt, pointAt}
-use Rattle.record.specs.Read.{settingsAt}
+use Rattle.record.specs.Read.{settingsAt, endsAt}
 use Rattle.record.specs.Parts.{nodeFields}
 use Rattle.wire.proofs.Bytes.{bytes-count, number-stands}
 use Rattle.record.proofs.Reading.{settings-read}
@@ -130,24 +130,26 @@ module _ (bytes : List ℕ) where
 -- ---- the settings
 pub record SettingsFits (s : Settings) : Type 0 where
   pub splits : s .«rule_splits» < 2 ^ 32
-  pub rounds : s .rounds < 2 ^ 32
-  pub multiplier : s .multiplier < 2 ^ 32
+  pub rounds : s .«optimization_rounds_per_split» < 2 ^ 32
+  pub multiplier : s .«action_change_multiplier» < 2 ^ 32
   pub min : ActionFits (s .«min_action»)
   pub max : ActionFits (s .«max_action»)
-  pub initial : ActionFits (s .«initial_change»)
-  pub most : ActionFits (s .«max_change»)
+  pub initial : ActionFits (s .«initial_action_change»)
+  pub most : ActionFits (s .«max_action_change»)
   pub default : ActionFits (s .«default_action»)
+  pub ends : PointFits (s .ends)
 
-pub settings-back : (bytes : List ℕ) (at : ℕ) (s : Settings) → SettingsFits s → Stands bytes at (settingsBytes s) → s ≡ settingsAt bytes at
-settings-back bytes at s f h =
+pub settings-back : (lay : Layout) (bytes : List ℕ) (at : ℕ) (s : Settings) → SettingsFits s → Stands bytes at (settingsBytes s)
+    → s .ends ≡ endsAt lay bytes (at + 113) → s ≡ settingsAt lay bytes at
+settings-back lay bytes at s f h e =
     let a = bytesOf 4 (s .«rule_splits») in
-    let b = bytesOf 4 (s .rounds) in
-    let d = bytesOf 4 (s .multiplier) in
-    let w = flagByte (s .drill) ∷ [] in
+    let b = bytesOf 4 (s .«optimization_rounds_per_split») in
+    let d = bytesOf 4 (s .«action_change_multiplier») in
+    let w = flagByte (s .«drill_down») ∷ [] in
     let p = actionBytes (s .«min_action») in
     let q = actionBytes (s .«max_action») in
-    let r = actionBytes (s .«initial_change») in
-    let u = actionBytes (s .«max_change») in
+    let r = actionBytes (s .«initial_action_change») in
+    let u = actionBytes (s .«max_action_change») in
     let v = actionBytes (s .«default_action») in
     let h4 = next bytes at 4 a (b ++ (d ++ (w ++ (p ++ (q ++ (r ++ (u ++ v))))))) (bytes-count 4 _) h in
     let h8 = onward bytes at 4 4 8 b (d ++ (w ++ (p ++ (q ++ (r ++ (u ++ v)))))) (bytes-count 4 _) refl h4 in
@@ -155,15 +157,15 @@ settings-back bytes at s f h =
     let h13 = onward bytes at 12 1 13 w (p ++ (q ++ (r ++ (u ++ v)))) refl refl h12 in
     let h33 = onward bytes at 13 20 33 p (q ++ (r ++ (u ++ v))) (action-count (s .«min_action»)) refl h13 in
     let h53 = onward bytes at 33 20 53 q (r ++ (u ++ v)) (action-count (s .«max_action»)) refl h33 in
-    let h73 = onward bytes at 53 20 73 r (u ++ v) (action-count (s .«initial_change»)) refl h53 in
-    let h93 = onward bytes at 73 20 93 u v (action-count (s .«max_change»)) refl h73 in
-    settings-read bytes at
+    let h73 = onward bytes at 53 20 73 r (u ++ v) (action-count (s .«initial_action_change»)) refl h53 in
+    let h93 = onward bytes at 73 20 93 u v (action-count (s .«max_action_change»)) refl h73 in
+    settings-read lay bytes at
     (sym (number-back bytes at 4 _ (f .splits) (first bytes at a (b ++ (d ++ (w ++ (p ++ (q ++ (r ++ (u ++ v))))))) h)))
     (sym (number-back bytes (at + 4) 4 _ (f .rounds) (first bytes (at + 4) b (d ++ (w ++ (p ++ (q ++ (r ++ (u ++ v)))))) h4)))
     (sym (number-back bytes (at + 8) 4 _ (f .multiplier) (first bytes (at + 8) d (w ++ (p ++ (q ++ (r ++ (u ++ v))))) h8)))
-    (sym (flag-back bytes (at + 12) (s .drill) (p ++ (q ++ (r ++ (u ++ v)))) h12))
+    (sym (flag-back bytes (at + 12) (s .«drill_down») (p ++ (q ++ (r ++ (u ++ v)))) h12))
     (sym (action-back bytes (at + 13) _ (f .min) (first bytes (at + 13) p (q ++ (r ++ (u ++ v))) h13)))
     (sym (action-back bytes (at + 33) _ (f .max) (first bytes (at + 33) q (r ++ (u ++ v)) h33)))
     (sym (action-back bytes (at + 53) _ (f .initial) (first bytes (at + 53) r (u ++ v) h53)))
     (sym (action-back bytes (at + 73) _ (f .most) (first bytes (at + 73) u v h73)))
-    (sym (action-back bytes (at + 93) _ (f .default) h93))
+    (sym (action-back bytes (at + 93) _ (f .default) h93)) e

@@ -68,14 +68,14 @@ bestNumber bytes at =
 
 module _ (lay : Layout) (a : Action) (bytes : List ℕ) (s at : ℕ) (few : s ≤ 64) (all : Bytes bytes) where
   abbrev t : Trainer
-  t = stateAt (settingsAt bytes 5) (treeAt lay a bytes s) bytes at
+  t = stateAt (settingsAt lay bytes 5) (treeAt lay a bytes s) bytes at
 
   abbrev leaf : ℕ
   leaf = numberAt bytes (at + 9) 2
 
   fields-are : stateAccepted lay bytes s at
       ≡ fieldsBy (t .phase) (leb 1 (t .stage)) (leb (t .stage) (t .settings .«rule_splits»)) (eqb (t .stage) (t .settings .«rule_splits» + 1))
-      (eqb (t .round) 0) (ltb (t .round) (t .settings .rounds)) (eqb leaf 0) (unmarkedLeaf lay bytes s leaf)
+      (eqb (t .round) 0) (ltb (t .round) (t .settings .«optimization_rounds_per_split»)) (eqb leaf 0) (unmarkedLeaf lay bytes s leaf)
       (eqb (numberAt bytes (at + 11) 8) 0)
       (nanAccepted (numberAt bytes (at + 11) 8))
       (eqb (t .k) 0) (ltb (t .k) (listLength lay bytes s leaf)) (eqb (t .kept) none) (eqb (numberAt bytes (at + 23) 8) 0)
@@ -85,7 +85,7 @@ module _ (lay : Layout) (a : Action) (bytes : List ℕ) (s at : ℕ) (few : s �
 
   phase-is : phaseHolds t
       ≡ phaseBy (t .phase) (leb 1 (t .stage)) (leb (t .stage) (t .settings .«rule_splits»)) (eqb (t .stage) (t .settings .«rule_splits» + 1))
-      (eqb (t .round) 0) (ltb (t .round) (t .settings .rounds)) (eqb leaf 0) (leafIn (t .tree) leaf && not (nodeAt (t .tree .nodes) leaf .optimized))
+      (eqb (t .round) 0) (ltb (t .round) (t .settings .«optimization_rounds_per_split»)) (eqb leaf 0) (leafIn (t .tree) leaf && not (nodeAt (t .tree .nodes) leaf .optimized))
       (zeroBits (t .best)) (eqb (t .k) 0) (ltb (t .k) (length (candidatesOf (t .settings) (leafAction t)))) (eqb (t .kept) none)
       (zeroBits (t .«kept_score»)) (ltb (t .kept) (t .k) && lt (t .best) (t .«kept_score»))
   unfolding phaseHolds splitting tuning ending leafHolds tryHolds untriedIn keptIn
@@ -95,7 +95,7 @@ module _ (lay : Layout) (a : Action) (bytes : List ℕ) (s at : ℕ) (few : s �
   abbrev phaseWith : Bool → Bool → Bool → Bool
   phaseWith unmarked best0 score0 =
       phaseBy (t .phase) (leb 1 (t .stage)) (leb (t .stage) (t .settings .«rule_splits»)) (eqb (t .stage) (t .settings .«rule_splits» + 1))
-      (eqb (t .round) 0) (ltb (t .round) (t .settings .rounds)) (eqb leaf 0) unmarked best0 (eqb (t .k) 0)
+      (eqb (t .round) 0) (ltb (t .round) (t .settings .«optimization_rounds_per_split»)) (eqb leaf 0) unmarked best0 (eqb (t .k) 0)
       (ltb (t .k) (length (candidatesOf (t .settings) (leafAction t)))) (eqb (t .kept) none) score0
       (ltb (t .kept) (t .k) && lt (t .best) (t .«kept_score»))
 
@@ -115,7 +115,7 @@ module _ (lay : Layout) (a : Action) (bytes : List ℕ) (s at : ℕ) (few : s �
   state-is =
       fields-are
       ∙ by-phase (leb 1 (t .stage)) (leb (t .stage) (t .settings .«rule_splits»)) (eqb (t .stage) (t .settings .«rule_splits» + 1))
-      (eqb (t .round) 0) (ltb (t .round) (t .settings .rounds)) (eqb leaf 0) (unmarkedLeaf lay bytes s leaf)
+      (eqb (t .round) 0) (ltb (t .round) (t .settings .«optimization_rounds_per_split»)) (eqb leaf 0) (unmarkedLeaf lay bytes s leaf)
       (eqb (numberAt bytes (at + 11) 8) 0)
       (nanAccepted (numberAt bytes (at + 11) 8))
       (eqb (t .k) 0) (ltb (t .k) (listLength lay bytes s leaf)) (ltb (t .k) (length (candidatesOf (t .settings) (leafAction t))))

@@ -60,7 +60,7 @@ module _ (s : Settings) (f : SettingsFits s) (t : RuleTree) (g : TreeFits t) whe
 
   round-fits : (i r : ℕ) → Fit (beginRound s t i r)
   unfolding beginRound
-  round-fits i r = either (ltb r (s .rounds)) _ _ (stand-fits 3 i r) (stage-fits (i + 1))
+  round-fits i r = either (ltb r (s .«optimization_rounds_per_split»)) _ _ (stand-fits 3 i r) (stage-fits (i + 1))
 
 module _ (t : Trainer) (f : Fit t) where
   -- ---- counts
@@ -71,7 +71,7 @@ module _ (t : Trainer) (f : Fit t) where
         let tree = splitMostUsed (t .tree) xs in
         let g = split-fits (t .tree) (f .tree) _ in
         answered (ltb (t .tree .splits) 64) _ _
-        (either (t .settings .drill && leb (usedIn xs) 1) _ _ (stand-fits (t .settings) (f .settings) tree g 2 (t .stage) 0)
+        (either (t .settings .«drill_down» && leb (usedIn xs) 1) _ _ (stand-fits (t .settings) (f .settings) tree g 2 (t .stage) 0)
         (round-fits (t .settings) (f .settings) tree g (t .stage) 0))
         f
 
@@ -220,7 +220,7 @@ part t f = record { settings = f .settings; tree = f .tree; best = f .best; scor
 
 pub started-fits : (s : Settings) → SettingsFits s → acceptedOf (started s) ≡ true → TrainerFits (started s)
 started-fits s f a =
-    whole-fits (started s) a (round-fits s f (freshTree cube.usualEnds (s .«default_action»)) (fresh-fits (s .«default_action») (f .default)) 0 0)
+    whole-fits (started s) a (round-fits s f (freshTree (s .ends) (s .«default_action»)) (fresh-fits (s .ends) (s .«default_action») (f .ends) (f .default)) 0 0)
 
 pub counted-fits : (t : Trainer) (xs : List ℕ) → TrainerFits t → acceptedOf (answerCountsOf t xs .trainer) ≡ true → TrainerFits (answerCountsOf t xs .trainer)
 counted-fits t xs f a = whole-fits (answerCountsOf t xs .trainer) a (counts-fit t (part t f) xs)

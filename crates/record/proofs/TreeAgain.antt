@@ -17,6 +17,7 @@ use Rattle.rule_tree.specs.Grown.{endsHold, grownOf}
 use Rattle.rule_tree.proofs.Lists.{length-tabulate}
 use Rattle.rule_tree.proofs.Links as links
 use Rattle.trainer.specs.declared.Trainer.{Trainer}
+use Rattle.trainer.proofs.Holds.{parts}
 use Rattle.record.specs.declared.inner.layout.Layout.{Layout}
 use Rattle.wire.specs.Bytes.{bytesOf}
 use Rattle.record.specs.Layout.{givenAction, endsSize, listPlace, nodesPlace}
@@ -41,7 +42,7 @@ module _ (lay : Layout) (bytes : List ℕ) (all : Bytes bytes) (h : Accepted lay
   s = splitCount lay bytes
 
   abbrev given : Action
-  given = givenAction (settingsAt bytes 5)
+  given = givenAction (settingsAt lay bytes 5)
 
   abbrev nodes : List Node
   nodes = tabulate 513 (nodeAtPlace lay given bytes s)
@@ -54,7 +55,7 @@ module _ (lay : Layout) (bytes : List ℕ) (all : Bytes bytes) (h : Accepted lay
 
   pub tree-grown : grownOf tree ≡ true
   tree-grown =
-      read-grown lay given bytes s (h .few) (h .splits) (h .nodes) (actions-valid (settingsAt bytes 5) (h .settings) .default) (h .ends)
+      read-grown lay given bytes s (h .few) (h .splits) (h .nodes) (actions-valid (settingsAt lay bytes 5) (h .settings) .default) (parts (settingsAt lay bytes 5) (h .settings) .4)
 
   pub nodes-full : length nodes ≡ 513
   nodes-full = nodes-long lay given bytes s (h .few)
@@ -98,15 +99,15 @@ module _ (lay : Layout) (bytes : List ℕ) (all : Bytes bytes) (h : Accepted lay
       (sym (place-is n (omega arith))) (node-stand n (omega arith)))
 
   -- ---- the ends and the splits
-  pub ends-stand : Stands bytes 118 (endBytes lay tree)
+  pub ends-stand : Stands bytes 118 (endBytes lay (settingsAt lay bytes 5))
   ends-stand = go (lay .ends) refl
     where
-      go : (b : Bool) → lay .ends ≡ b → Stands bytes 118 (endBytes lay tree)
+      go : (b : Bool) → lay .ends ≡ b → Stands bytes 118 (endBytes lay (settingsAt lay bytes 5))
       go true e =
           let size = h .size in
           subst (λ (b : Bool). Stands bytes 118 (cond b (pointBytes (cond b (pointAt bytes 118) usualEnds)) [])) (sym e)
           (point-stands bytes all 118 (omega arith)
-          (ap (λ (b : Bool). endsHold (cond b (pointAt bytes 118) usualEnds)) (sym e) ∙ h .ends))
+          (ap (λ (b : Bool). endsHold (cond b (pointAt bytes 118) usualEnds)) (sym e) ∙ parts (settingsAt lay bytes 5) (h .settings) .4))
       go false e =
           subst (λ (b : Bool). Stands bytes 118 (cond b (pointBytes (cond b (pointAt bytes 118) usualEnds)) [])) (sym e) (nothing-stands bytes 118)
 

@@ -13,6 +13,7 @@ use lib.Ieee.Fits.{add-fits, nan-fits}
 use mir.Syntax.{w32}
 use mir.Val.{SFits}
 use Rattle.remy.specs.declared.action.Action.{Action}
+use Rattle.remy.specs.declared.point.Point.{Point}
 use Rattle.remy.specs.Action.{validOf}
 use Rattle.remy.specs.Cube as cube
 use Rattle.rule_tree.specs.declared.Node.{Node}
@@ -20,7 +21,7 @@ use Rattle.rule_tree.specs.declared.RuleTree.{RuleTree}
 use Rattle.rule_tree.specs.Lists.{fill}
 use Rattle.rule_tree.specs.Nodes.{noNode, nodeAt, leafWith, linkedTo, blankNode, actionIn, nodeHolding}
 use Rattle.rule_tree.specs.Change.{freshTree, withAction, withMark, unmarkedNode, withoutMarks, splitAt}
-use Rattle.rule_tree.proofs.Plain.{ActionFits}
+use Rattle.rule_tree.proofs.Plain.{ActionFits, PointFits}
 use Rattle.rule_tree.proofs.Owners.{below-or-not}
 use Rattle.rule_tree.proofs.Changing.{action-length, mark-length, clear-length, fresh-length, split-length}
 use Rattle.rule_tree_laws.proofs.Sound.{TreeFits}
@@ -164,10 +165,10 @@ module _ (t : RuleTree) (f : TreeFits t) where
   pub clear-fits : TreeFits (withoutMarks t)
   clear-fits = record { full = clear-length t ∙ f .full; ends = f .ends; actions = λ j l. cleared-fits (t .nodes) node-fits j }
 
-pub fresh-fits : (a : Action) → ActionFits a → TreeFits (freshTree cube.usualEnds a)
-fresh-fits a g =
+pub fresh-fits : (e : Point) (a : Action) → PointFits e → ActionFits a → TreeFits (freshTree e a)
+fresh-fits e a p g =
     record {
-      full = fresh-length cube.usualEnds a;
-      ends = ends-fit;
+      full = fresh-length e a;
+      ends = p;
       actions = λ j l. set-fits (replicate 513 blankNode) 0 _ (replicate-fits 513 blankNode plain-fits) g j;
     }

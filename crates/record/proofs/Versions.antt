@@ -29,10 +29,10 @@ use Rattle.wire.specs.Fields.{actionAt, flagAt, pointAt}
 use Rattle.record.specs.Read.{settingsAt, splitCount, linkOf, payloadPlace, nodeAtPlace, readIn, versionAt}
 use Rattle.record.specs.Calls.{loadOf}
 use Rattle.wire.proofs.Bytes.{never}
-use Rattle.record.proofs.Layouts.{size-first}
+use Rattle.record.proofs.Layouts.{size-first, size-second}
 use Rattle.record.proofs.Size.{record-size}
-use Rattle.record.proofs.RoundTrip.{TrainerFits, Carried}
-use Rattle.record.proofs.Loading.{load-carried, load-saved, load-again, accepted-grown}
+use Rattle.record.proofs.RoundTrip.{TrainerFits, Carried, carried-parents}
+use Rattle.record.proofs.Loading.{accepted-ends, load-carried, load-saved, load-again, accepted-grown}
 use Rattle.record.proofs.NumbersAgain.{Bytes}
 use Rattle.record.proofs.BytesFit.{loaded-is, loaded-fits}
 
@@ -67,18 +67,19 @@ module _ (lay : Layout) (a : Action) (bytes : List ℕ) (s i : ℕ) where
 read-carried : (lay : Layout) (bytes : List ℕ) → Carried lay (readIn lay bytes)
 read-carried lay bytes =
     let s = splitCount lay bytes in
-    let a = givenAction (settingsAt bytes 5) in
+    let a = givenAction (settingsAt lay bytes 5) in
     record {
       parents = λ i l z.
           subst (λ (x : Node). carries lay (x .children) ≡ false → x ≡ given a (x .children)) (sym (getD-tabulate 513 i (nodeAtPlace lay a bytes s) noNode l)) (place-given lay a bytes s i) z;
       ends = λ z. ap (λ (b : Bool). cond b (pointAt bytes 118) usualEnds) z;
+      box = refl;
     }
 
 pub loaded-carried : (bytes : List ℕ) (t : Trainer) → loadOf bytes ≡ taken t → Carried (layoutOf (versionAt bytes)) t
 loaded-carried bytes t e = subst (Carried (layoutOf (versionAt bytes))) (loaded-is bytes t e) (read-carried (layoutOf (versionAt bytes)) bytes)
 
--- ---- "it is written again as version 2"
-pub saved-version : (t : Trainer) → versionAt (recordOf t) ≡ 2
+-- ---- "written again as version 3"
+pub saved-version : (t : Trainer) → versionAt (recordOf t) ≡ 3
 unfolding recordIn bytesOf
 saved-version t = refl
 
@@ -93,7 +94,7 @@ pub record FirstLoaded (bytes : List ℕ) (t : Trainer) : Type 0 where
   pub written : recordIn (layoutOf 1) 1 t ≡ bytes
   pub parents : (i : ℕ) → i < 513 → (kids (t .tree) i ≡ 0 → ⊥)
       → nodeAt (t .tree .nodes) i ≡ nodeHolding (t .settings .«default_action») (kids (t .tree) i) false
-  pub ends : t .tree .ends ≡ usualEnds
+  pub ends : t .settings .ends ≡ usualEnds
 
 module _ (bytes : List ℕ) (t : Trainer) (e : loadOf bytes ≡ taken t) (v : versionAt bytes ≡ 1) where
   first-carried : Carried (layoutOf 1) t
@@ -124,8 +125,30 @@ module _ (bytes : List ℕ) (t : Trainer) (e : loadOf bytes ≡ taken t) (v : ve
 pub load-first : (t : Trainer) → TrainerFits t → FirstLoaded (recordIn (layoutOf 1) 1 t) t → loadOf (recordIn (layoutOf 1) 1 t) ≡ taken t
 load-first t f h =
     load-carried 1 refl t f (h .accepted)
-    (record { parents = λ i l z. h .parents i l (λ q. never (sym z ∙ ap (λ (c : ℕ). eqb c 0) q)); ends = λ z. h .ends })
+    (record { parents = λ i l z. h .parents i l (λ q. never (sym z ∙ ap (λ (c : ℕ). eqb c 0) q)); ends = λ z. h .ends; box = accepted-ends t f (h .accepted) })
 
 -- "64 splits 9,708" in version 1
 pub first-count : (t : Trainer) → grownOf (t .tree) ≡ true → length (t .tree .nodes) ≡ 513 → length (recordIn (layoutOf 1) 1 t) ≡ 172 + 149 * t .tree .splits
 first-count t g full = record-size (layoutOf 1) 1 t g full ∙ size-first (t .tree .splits)
+
+-- ---- "older versions load with 600, 600, 1000": version 2, which says all of an accepted trainer but its upper ends
+pub record SecondLoaded (bytes : List ℕ) (t : Trainer) : Type 0 where
+  pub accepted : acceptedOf t ≡ true
+  pub written : recordIn (layoutOf 2) 2 t ≡ bytes
+  pub ends : t .settings .ends ≡ usualEnds
+
+pub load-second-is : (bytes : List ℕ) (t : Trainer) → loadOf bytes ≡ taken t → versionAt bytes ≡ 2 → SecondLoaded bytes t
+load-second-is bytes t e v =
+    record {
+      accepted = load-again bytes t e .accepted;
+      written = ap (λ (n : ℕ). recordIn (layoutOf n) n t) (sym v) ∙ load-again bytes t e .again;
+      ends = subst (λ (n : ℕ). Carried (layoutOf n) t) v (loaded-carried bytes t e) .ends refl;
+    }
+
+pub load-second : (t : Trainer) → TrainerFits t → SecondLoaded (recordIn (layoutOf 2) 2 t) t → loadOf (recordIn (layoutOf 2) 2 t) ≡ taken t
+load-second t f h =
+    load-carried 2 refl t f (h .accepted) (carried-parents (layoutOf 2) t refl (λ z. h .ends) (accepted-ends t f (h .accepted)))
+
+-- "64 splits 11,052" in version 2
+pub second-count : (t : Trainer) → grownOf (t .tree) ≡ true → length (t .tree .nodes) ≡ 513 → length (recordIn (layoutOf 2) 2 t) ≡ 172 + 170 * t .tree .splits
+second-count t g full = record-size (layoutOf 2) 2 t g full ∙ size-second (t .tree .splits)

@@ -34,21 +34,21 @@ pub action-count : (a : Action) → length (actionBytes a) ≡ 20
 action-count a = simp (length-append, bytes-count)
 
 -- ---- the settings
-pub numbers-written : (l : List ℕ) (at : ℕ) (s : Settings) (b : ℕ) {l1 l2 l3 : List ℕ} → b ≡ flagByte (s .drill)
-    → l1 ≡ sets l at (bytesOf 4 (s .«rule_splits»)) → l2 ≡ sets l1 (at + 4) (bytesOf 4 (s .rounds))
-    → l3 ≡ sets l2 (at + 8) (bytesOf 4 (s .multiplier)) → set l3 (at + 12) b ≡ sets l at (numberFields s)
+pub numbers-written : (l : List ℕ) (at : ℕ) (s : Settings) (b : ℕ) {l1 l2 l3 : List ℕ} → b ≡ flagByte (s .«drill_down»)
+    → l1 ≡ sets l at (bytesOf 4 (s .«rule_splits»)) → l2 ≡ sets l1 (at + 4) (bytesOf 4 (s .«optimization_rounds_per_split»))
+    → l3 ≡ sets l2 (at + 8) (bytesOf 4 (s .«action_change_multiplier»)) → set l3 (at + 12) b ≡ sets l at (numberFields s)
 numbers-written l at s b {l1} {l2} {l3} e p q r =
-    four l at (bytesOf 4 (s .«rule_splits»)) (bytesOf 4 (s .rounds)) (bytesOf 4 (s .multiplier)) 4 8 (b ∷ []) 12 {l4 = set l3 (at + 12) b} p q r refl
+    four l at (bytesOf 4 (s .«rule_splits»)) (bytesOf 4 (s .«optimization_rounds_per_split»)) (bytesOf 4 (s .«action_change_multiplier»)) 4 8 (b ∷ []) 12 {l4 = set l3 (at + 12) b} p q r refl
     (bytes-count 4 _) (simp (length-append, bytes-count)) (simp (length-append, bytes-count))
     ∙ rw e
 
 pub actions-written : (l : List ℕ) (at : ℕ) (s : Settings) {l1 l2 l3 l4 l5 : List ℕ}
     → l1 ≡ sets l at (actionBytes (s .«min_action»)) → l2 ≡ sets l1 (at + 20) (actionBytes (s .«max_action»))
-    → l3 ≡ sets l2 (at + 40) (actionBytes (s .«initial_change»)) → l4 ≡ sets l3 (at + 60) (actionBytes (s .«max_change»))
+    → l3 ≡ sets l2 (at + 40) (actionBytes (s .«initial_action_change»)) → l4 ≡ sets l3 (at + 60) (actionBytes (s .«max_action_change»))
     → l5 ≡ sets l4 (at + 80) (actionBytes (s .«default_action»)) → l5 ≡ sets l at (actionFields s)
 actions-written l at s p q r u v =
-    five l at (actionBytes (s .«min_action»)) (actionBytes (s .«max_action»)) (actionBytes (s .«initial_change»)) 20 40
-    (actionBytes (s .«max_change»)) 60 (actionBytes (s .«default_action»)) 80 p q r u v
+    five l at (actionBytes (s .«min_action»)) (actionBytes (s .«max_action»)) (actionBytes (s .«initial_action_change»)) 20 40
+    (actionBytes (s .«max_action_change»)) 60 (actionBytes (s .«default_action»)) 80 p q r u v
     (simp (length-append, bytes-count)) (simp (length-append, bytes-count)) (simp (length-append, bytes-count)) (simp (length-append, bytes-count))
 
 pub numbers-count : (s : Settings) → length (numberFields s) ≡ 13
@@ -105,20 +105,20 @@ splits-written l at t cs ps {l1} {l2} ec ep p q =
 pub point-count : (p : Point) → length (pointBytes p) ≡ 24
 point-count p = simp (length-append, bytes-count)
 
-pub ends-written : (l : List ℕ) (at : ℕ) (lay : Layout) (t : RuleTree) {l1 : List ℕ} → lay .ends ≡ true → l1 ≡ sets l at (pointBytes (t .ends))
-    → (at + 24 ≡ at + endsSize lay) × (l1 ≡ sets l at (endBytes lay t))
+pub ends-written : (l : List ℕ) (at : ℕ) (lay : Layout) (s : Settings) {l1 : List ℕ} → lay .ends ≡ true → l1 ≡ sets l at (pointBytes (s .ends))
+    → (at + 24 ≡ at + endsSize lay) × (l1 ≡ sets l at (endBytes lay s))
 unfolding endsSize
-ends-written l at lay t e p = (
+ends-written l at lay s e p = (
   ap (λ (b : Bool). at + cond b 24 0) (sym e),
-  p ∙ ap (λ (b : Bool). sets l at (cond b (pointBytes (t .ends)) [])) (sym e),
+  p ∙ ap (λ (b : Bool). sets l at (cond b (pointBytes (s .ends)) [])) (sym e),
 )
 
-pub ends-skipped : (l : List ℕ) (at : ℕ) (lay : Layout) (t : RuleTree) → lay .ends ≡ false
-    → (at ≡ at + endsSize lay) × (l ≡ sets l at (endBytes lay t))
+pub ends-skipped : (l : List ℕ) (at : ℕ) (lay : Layout) (s : Settings) → lay .ends ≡ false
+    → (at ≡ at + endsSize lay) × (l ≡ sets l at (endBytes lay s))
 unfolding endsSize
-ends-skipped l at lay t e = (
+ends-skipped l at lay s e = (
   (let z : at ≡ at + 0 = omega arith in z) ∙ ap (λ (b : Bool). at + cond b 24 0) (sym e),
-  ap (λ (b : Bool). sets l at (cond b (pointBytes (t .ends)) [])) (sym e),
+  ap (λ (b : Bool). sets l at (cond b (pointBytes (s .ends)) [])) (sym e),
 )
 
 -- the bytes that are needed at a place for the ends

@@ -15,13 +15,16 @@ use Rattle.rule_tree.specs.Lists.{tabulate}
 use Rattle.rule_tree.specs.Nodes.{nodeCount}
 use Rattle.rule_tree.proofs.Plain.{and-l, and-r}
 use Rattle.trainer.specs.declared.Trainer.{Trainer}
-use Rattle.trainer.specs.State.{none, phaseHolds, acceptedOf}
+use Rattle.trainer.specs.State.{none, boxHolds, phaseHolds, acceptedOf}
+use Rattle.trainer.proofs.Holds.{parts}
+use Rattle.remy.proofs.Ends.{ends-themselves}
+use Rattle.rule_tree.proofs.Plain.{ends-admitted}
 use Rattle.record.specs.declared.inner.layout.Layout.{Layout}
 use Rattle.wire.specs.Bytes.{bytesOf, numberAt}
 use Rattle.record.specs.Layout.{givenAction, endsSize, nodesIn, nodesPlace, statePlace}
 use Rattle.wire.specs.Fields.{floatBytes}
 use Rattle.record.specs.Write.{settingsBytes, splitsBytes, endBytes, payloadBytes, stateBytes, bodyIn, recordIn}
-use Rattle.record.specs.Read.{settingsAt, splitCount, nodeAtPlace, treeAt, trainerAt}
+use Rattle.record.specs.Read.{settingsAt, endsAt, splitCount, nodeAtPlace, treeAt, trainerAt}
 use Rattle.record.specs.Accepted.{phaseAccepted, stageAccepted, leafAccepted, bestAccepted, triedAccepted, keptAccepted, listLength, stateAccepted, nanAccepted}
 use Rattle.wire.proofs.Bytes.{bytes-count}
 use Rattle.record.proofs.Writing.{settings-count}
@@ -56,7 +59,7 @@ module _ (lay : Layout) (bytes : List ℕ) (all : Bytes bytes) (h : Accepted lay
   s = splitCount lay bytes
 
   abbrev given : Action
-  given = givenAction (settingsAt bytes 5)
+  given = givenAction (settingsAt lay bytes 5)
 
   abbrev nodes : List Node
   nodes = tabulate 513 (nodeAtPlace lay given bytes s)
@@ -72,9 +75,13 @@ module _ (lay : Layout) (bytes : List ℕ) (all : Bytes bytes) (h : Accepted lay
       and-l (phaseHolds t) (bestNumber bytes (statePlace lay s))
       (sym (state-is lay given bytes s (statePlace lay s) (h .few) all) ∙ h .state)
 
+  boxed : boxHolds t ≡ true
+  unfolding boxHolds
+  boxed = let e = endsAt lay bytes 118 in ends-themselves e (ends-admitted e (parts (settingsAt lay bytes 5) (h .settings) .4))
+
   pub read-accepted : acceptedOf t ≡ true
   unfolding acceptedOf
-  read-accepted = rw (h .settings, tree-grown lay bytes all h, holds)
+  read-accepted = rw (h .settings, tree-grown lay bytes all h, boxed, holds)
 
   -- ---- its parts stand where they were read
   state-stand : Stands bytes (statePlace lay s) (stateBytes t)
@@ -83,7 +90,7 @@ module _ (lay : Layout) (bytes : List ℕ) (all : Bytes bytes) (h : Accepted lay
       let at = statePlace lay s in
       let size = h .size in
       let r1 = and-r (phaseAccepted (getD bytes at 0)) _ (h .state) in
-      let r2 = and-r (stageAccepted (settingsAt bytes 5) (getD bytes at 0) (numberAt bytes (at + 1) 4) (numberAt bytes (at + 5) 4)) _ r1 in
+      let r2 = and-r (stageAccepted (settingsAt lay bytes 5) (getD bytes at 0) (numberAt bytes (at + 1) 4) (numberAt bytes (at + 5) 4)) _ r1 in
       let r3 = and-r (leafAccepted lay bytes s (getD bytes at 0) (numberAt bytes (at + 9) 2)) _ r2 in
       let r4 = and-r (bestAccepted (getD bytes at 0) (numberAt bytes (at + 11) 8)) _ r3 in
       let r5 = and-r (triedAccepted (getD bytes at 0) (listLength lay bytes s (numberAt bytes (at + 9) 2)) (numberAt bytes (at + 19) 2)) _ r4 in
@@ -110,7 +117,7 @@ module _ (lay : Layout) (bytes : List ℕ) (all : Bytes bytes) (h : Accepted lay
     body-stand : Stands bytes 4 (bodyIn lay v t)
     body-stand =
         let size = h .size in
-        let z = endBytes lay tree in
+        let z = endBytes lay (settingsAt lay bytes 5) in
         let y = splitsBytes tree in
         let x = payloadBytes lay nodes (nodeCount s) in
         let w = stateBytes t in
@@ -118,10 +125,10 @@ module _ (lay : Layout) (bytes : List ℕ) (all : Bytes bytes) (h : Accepted lay
         let h4 = joined bytes (nodesPlace lay s) (21 * nodesIn lay s) x w n (payload-stand lay bytes all h (nodeCount s) (omega arith)) state-stand in
         let h3 = joined bytes (118 + endsSize lay) (2 + 2 * s) y (x ++ w) (splits-count tree (h .few)) (splits-stand lay bytes all h)
         (moved bytes (nodesPlace lay s) (118 + endsSize lay + (2 + 2 * s)) (x ++ w) (omega arith) h4) in
-        let h2 = joined bytes 118 (endsSize lay) z (y ++ (x ++ w)) (ends-count lay tree) (ends-stand lay bytes all h) h3 in
-        let h1 = joined bytes 5 113 (settingsBytes (settingsAt bytes 5)) (z ++ (y ++ (x ++ w))) (settings-count (settingsAt bytes 5))
-        (settings-stand bytes all 5 (omega arith) (h .settings) (h .drill)) h2 in
-        joined bytes 4 1 (v ∷ []) (settingsBytes (settingsAt bytes 5) ++ (z ++ (y ++ (x ++ w)))) refl
+        let h2 = joined bytes 118 (endsSize lay) z (y ++ (x ++ w)) (ends-count lay (settingsAt lay bytes 5)) (ends-stand lay bytes all h) h3 in
+        let h1 = joined bytes 5 113 (settingsBytes (settingsAt lay bytes 5)) (z ++ (y ++ (x ++ w))) (settings-count (settingsAt lay bytes 5))
+        (settings-stand bytes all lay 5 (omega arith) (h .settings) (h .drill)) h2 in
+        joined bytes 4 1 (v ∷ []) (settingsBytes (settingsAt lay bytes 5) ++ (z ++ (y ++ (x ++ w)))) refl
         (subst (λ (b : ℕ). Stands bytes 4 (b ∷ [])) is (byte-stands bytes 4 (omega arith))) h1
 
     pub written-again : recordIn lay v t ≡ bytes

@@ -9,7 +9,6 @@ use lib.Ieee.{binary64, ofBits, nanBits, lt}
 use Rattle.remy.specs.Action.{validOf}
 use Rattle.rule_tree.specs.Lists.{allBelow}
 use Rattle.rule_tree.specs.Nodes.{nodeCount}
-use Rattle.rule_tree.specs.Grown.{endsHold}
 use Rattle.trainer.specs.declared.settings.Settings.{Settings}
 use Rattle.trainer.specs.Settings.{settingsHold}
 use Rattle.trainer.specs.Candidates.{candidatesOf}
@@ -18,7 +17,7 @@ use Rattle.record.specs.declared.inner.layout.Layout.{Layout}
 use Rattle.wire.specs.Bytes.{numberAt}
 use Rattle.record.specs.Layout.{layoutOf, listPlace, statePlace, sizeIn}
 use Rattle.wire.specs.Fields.{actionAt, flagAt}
-use Rattle.record.specs.Read.{settingsAt, endsAt, splitCount, splitAtPlace, linkOf, carriedAt, payloadPlace, versionAt}
+use Rattle.record.specs.Read.{settingsAt, splitCount, splitAtPlace, linkOf, carriedAt, payloadPlace, versionAt}
 
 -- "bytes are 0 or 1 where flags"
 abbrev pub flagAccepted : List ℕ → ℕ → Bool
@@ -28,9 +27,9 @@ flagAccepted bytes at = leb (getD bytes at 0) 1
 unfoldable pub sizeAccepted : Layout → List ℕ → ℕ → Bool
 sizeAccepted l bytes s = leb s 64 && eqb (length bytes) (sizeIn l s)
 
--- "settings .. hold", and their drill byte is a flag
-unfoldable pub settingsAccepted : List ℕ → Bool
-settingsAccepted bytes = settingsHold (settingsAt bytes 5) && flagAccepted bytes 17
+-- "settings .. hold", their upper ends too, and their drill byte is a flag
+unfoldable pub settingsAccepted : Layout → List ℕ → Bool
+settingsAccepted l bytes = settingsHold (settingsAt l bytes 5) && flagAccepted bytes 17
 
 -- "each names a leaf then": split k's node is one of the 1 + 8 k that there are, and no split before it made it a parent
 unfoldable pub splitAccepted : List ℕ → ℕ → ℕ → Bool
@@ -57,7 +56,7 @@ phaseAccepted phase = leb 1 phase && leb phase 7
 unfoldable pub stageAccepted : Settings → ℕ → ℕ → ℕ → Bool
 stageAccepted s phase stage round =
     cond (leb phase 2) (leb 1 stage && (leb stage (s .«rule_splits») && eqb round 0))
-    (cond (leb phase 5) (leb stage (s .«rule_splits») && ltb round (s .rounds))
+    (cond (leb phase 5) (leb stage (s .«rule_splits») && ltb round (s .«optimization_rounds_per_split»))
     (eqb stage (s .«rule_splits» + 1) && eqb round 0))
 
 -- "in 4, 5 an unmarked leaf"; "Fields a phase doesn't use are 0"
@@ -88,26 +87,25 @@ keptAccepted phase best k kept score =
 
 -- the length of the list of candidates for the action of a leaf
 abbrev pub listLength : Layout → List ℕ → ℕ → ℕ → ℕ
-listLength l bytes s leaf = length (candidatesOf (settingsAt bytes 5) (actionAt bytes (payloadPlace l bytes s leaf)))
+listLength l bytes s leaf = length (candidatesOf (settingsAt l bytes 5) (actionAt bytes (payloadPlace l bytes s leaf)))
 
 -- the state that stands at a place
 unfoldable pub stateAccepted : Layout → List ℕ → ℕ → ℕ → Bool
 stateAccepted l bytes s at =
     phaseAccepted (getD bytes at 0)
-    && (stageAccepted (settingsAt bytes 5) (getD bytes at 0) (numberAt bytes (at + 1) 4) (numberAt bytes (at + 5) 4)
+    && (stageAccepted (settingsAt l bytes 5) (getD bytes at 0) (numberAt bytes (at + 1) 4) (numberAt bytes (at + 5) 4)
     && (leafAccepted l bytes s (getD bytes at 0) (numberAt bytes (at + 9) 2)
     && (bestAccepted (getD bytes at 0) (numberAt bytes (at + 11) 8)
     && (triedAccepted (getD bytes at 0) (listLength l bytes s (numberAt bytes (at + 9) 2)) (numberAt bytes (at + 19) 2)
     && keptAccepted (getD bytes at 0) (numberAt bytes (at + 11) 8) (numberAt bytes (at + 19) 2) (numberAt bytes (at + 21) 2)
     (numberAt bytes (at + 23) 8)))))
 
--- all of it, of bytes with s splits in a layout; the upper ends, where they are written, are the usual ones
+-- all of it, of bytes with s splits in a layout
 unfoldable pub acceptedIn : Layout → List ℕ → ℕ → Bool
 acceptedIn l bytes s =
     sizeAccepted l bytes s
-    && (settingsAccepted bytes
-    && (endsHold (endsAt l bytes 118)
-    && (splitsAccepted l bytes s && (nodesAccepted l bytes s && stateAccepted l bytes s (statePlace l s)))))
+    && (settingsAccepted l bytes
+    && (splitsAccepted l bytes s && (nodesAccepted l bytes s && stateAccepted l bytes s (statePlace l s))))
 
 -- the bytes of a record are accepted in their own version's layout
 unfoldable pub acceptedBytes : List ℕ → Bool

@@ -6,14 +6,14 @@ use Rattle.remy.specs.declared.action.Action.{Action}
 use Rattle.trainer.specs.declared.settings.Settings.{Settings}
 use Rattle.record.specs.declared.inner.layout.Layout.{Layout}
 
--- version 1 writes the actions and marks "per leaf by rising node"; version 2 "writes them for every node by rising number"; a layout with the tree's
--- upper ends too is that of a version that is not known
+-- version 1 writes the actions and marks "per leaf by rising node"; version 2 "writes them for every node by rising number"; "Record version 3 is version 2
+-- with these as 24 bytes after the five actions": the upper ends
 abbrev pub layoutOf : ℕ → Layout
 layoutOf v = record { parents = ltb 1 v; ends = ltb 2 v }
 
--- the versions that are known: "version byte 1", and "record version 2"
+-- the versions that are known: "version byte 1", "record version 2" and "Record version 3"
 abbrev pub knownOf : ℕ → Bool
-knownOf v = leb 1 v && leb v 2
+knownOf v = leb 1 v && leb v 3
 
 -- whether the action and mark of a node with the first child c are written
 abbrev pub carries : Layout → ℕ → Bool

@@ -20,12 +20,12 @@ use Rattle.record.specs.Calls.{bodyHolds}
 -- the settings' numbers and drill, and their actions
 abbrev pub numberFields : Settings → List ℕ
 numberFields s =
-    bytesOf 4 (s .«rule_splits») ++ (bytesOf 4 (s .rounds) ++ (bytesOf 4 (s .multiplier) ++ (flagByte (s .drill) ∷ [])))
+    bytesOf 4 (s .«rule_splits») ++ (bytesOf 4 (s .«optimization_rounds_per_split») ++ (bytesOf 4 (s .«action_change_multiplier») ++ (flagByte (s .«drill_down») ∷ [])))
 
 abbrev pub actionFields : Settings → List ℕ
 actionFields s =
-    actionBytes (s .«min_action») ++ (actionBytes (s .«max_action») ++ (actionBytes (s .«initial_change») ++ (
-    actionBytes (s .«max_change») ++ actionBytes (s .«default_action»))))
+    actionBytes (s .«min_action») ++ (actionBytes (s .«max_action») ++ (actionBytes (s .«initial_action_change») ++ (
+    actionBytes (s .«max_action_change») ++ actionBytes (s .«default_action»))))
 
 -- the state up to the leaf, and what has been tried there
 abbrev pub placeFields : Trainer → List ℕ

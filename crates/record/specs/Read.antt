@@ -18,23 +18,24 @@ use Rattle.wire.specs.Bytes.{numberAt}
 use Rattle.record.specs.Layout.{layoutOf, carries, givenAction, endsSize, listPlace, nodesPlace, statePlace}
 use Rattle.wire.specs.Fields.{floatAt, actionAt, flagAt, pointAt}
 
-abbrev pub settingsAt : List ℕ → ℕ → Settings
-settingsAt bytes at =
-    record {
-      «rule_splits» = numberAt bytes at 4;
-      rounds = numberAt bytes (at + 4) 4;
-      multiplier = numberAt bytes (at + 8) 4;
-      drill = flagAt bytes (at + 12);
-      «min_action» = actionAt bytes (at + 13);
-      «max_action» = actionAt bytes (at + 33);
-      «initial_change» = actionAt bytes (at + 53);
-      «max_change» = actionAt bytes (at + 73);
-      «default_action» = actionAt bytes (at + 93);
-    }
-
--- the upper ends that stand at a place, or the usual ones
+-- the upper ends that stand at a place, or the usual ones: "older versions load with 600, 600, 1000"
 abbrev pub endsAt : Layout → List ℕ → ℕ → Point
 endsAt l bytes at = cond (l .ends) (pointAt bytes at) usualEnds
+
+abbrev pub settingsAt : Layout → List ℕ → ℕ → Settings
+settingsAt l bytes at =
+    record {
+      «rule_splits» = numberAt bytes at 4;
+      «optimization_rounds_per_split» = numberAt bytes (at + 4) 4;
+      «action_change_multiplier» = numberAt bytes (at + 8) 4;
+      «drill_down» = flagAt bytes (at + 12);
+      «min_action» = actionAt bytes (at + 13);
+      «max_action» = actionAt bytes (at + 33);
+      «initial_action_change» = actionAt bytes (at + 53);
+      «max_action_change» = actionAt bytes (at + 73);
+      «default_action» = actionAt bytes (at + 93);
+      ends = endsAt l bytes (at + 113);
+    }
 
 -- the split count, and the node of split k in the list at place list
 abbrev pub splitCount : Layout → List ℕ → ℕ
@@ -88,7 +89,7 @@ stateAt s t bytes at =
 
 abbrev pub trainerAt : Layout → List ℕ → ℕ → Trainer
 trainerAt l bytes s =
-    stateAt (settingsAt bytes 5) (treeAt l (givenAction (settingsAt bytes 5)) bytes s) bytes (statePlace l s)
+    stateAt (settingsAt l bytes 5) (treeAt l (givenAction (settingsAt l bytes 5)) bytes s) bytes (statePlace l s)
 
 abbrev pub readIn : Layout → List ℕ → Trainer
 readIn l bytes = trainerAt l bytes (splitCount l bytes)

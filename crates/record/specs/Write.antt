@@ -17,9 +17,9 @@ use Rattle.wire.specs.Fields.{floatBytes, actionBytes, pointBytes}
 -- "u32 splits, rounds, multiplier; drill byte; five actions in the order above"
 abbrev pub settingsBytes : Settings → List ℕ
 settingsBytes s =
-    bytesOf 4 (s .«rule_splits») ++ (bytesOf 4 (s .rounds) ++ (bytesOf 4 (s .multiplier) ++ (flagByte (s .drill) ∷ (
-    actionBytes (s .«min_action») ++ (actionBytes (s .«max_action») ++ (actionBytes (s .«initial_change») ++ (
-    actionBytes (s .«max_change») ++ actionBytes (s .«default_action»))))))))
+    bytesOf 4 (s .«rule_splits») ++ (bytesOf 4 (s .«optimization_rounds_per_split») ++ (bytesOf 4 (s .«action_change_multiplier») ++ (flagByte (s .«drill_down») ∷ (
+    actionBytes (s .«min_action») ++ (actionBytes (s .«max_action») ++ (actionBytes (s .«initial_action_change») ++ (
+    actionBytes (s .«max_action_change») ++ actionBytes (s .«default_action»))))))))
 
 -- "each split's node u16"
 unfoldable pub numbersBytes : List ℕ → List ℕ
@@ -42,9 +42,9 @@ payloadBytes l nodes zero = []
 payloadBytes l nodes (suc n) =
     payloadBytes l nodes n ++ cond (carries l (nodeAt nodes n .children)) (nodeBytes (nodeAt nodes n)) []
 
--- the upper ends, where the layout has them
-abbrev pub endBytes : Layout → RuleTree → List ℕ
-endBytes l t = cond (l .ends) (pointBytes (t .ends)) []
+-- the upper ends, where the layout has them: "24 bytes after the five actions (ack, send, ratio)"
+abbrev pub endBytes : Layout → Settings → List ℕ
+endBytes l s = cond (l .ends) (pointBytes (s .ends)) []
 
 -- "phase byte; u32 stage, round; u16 leaf; best 8; u16 k; u16 kept (65535 none); kept's score 8"
 abbrev pub stateBytes : Trainer → List ℕ
@@ -55,7 +55,7 @@ stateBytes t =
 -- the version byte and all that follows it, in a layout
 abbrev pub bodyIn : Layout → ℕ → Trainer → List ℕ
 bodyIn l v t =
-    v ∷ (settingsBytes (t .settings) ++ (endBytes l (t .tree) ++ (splitsBytes (t .tree) ++ (
+    v ∷ (settingsBytes (t .settings) ++ (endBytes l (t .settings) ++ (splitsBytes (t .tree) ++ (
     payloadBytes l (t .tree .nodes) (nodeCount (t .tree .splits)) ++ stateBytes t))))
 
 -- "u32 length of all that follows"
@@ -63,9 +63,9 @@ unfoldable pub recordIn : Layout → ℕ → Trainer → List ℕ
 unfolding bytesOf numbersBytes payloadBytes
 recordIn l v t = bytesOf 4 (length (bodyIn l v t)) ++ bodyIn l v t
 
--- what is saved: "it is written again as version 2"
+-- what is saved: older versions "are written again as version 3"
 abbrev pub version : ℕ
-version = 2
+version = 3
 
 abbrev pub bodyOf : Trainer → List ℕ
 bodyOf t = bodyIn (layoutOf version) version t

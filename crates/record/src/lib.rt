@@ -21,10 +21,10 @@ pub fn save(t: Trainer, buf: &mut [u8]) -> Saved
 {
     if t.accepted() {
         let tree = t.tree;
-        let l = layout::of_version(2);
+        let l = layout::of_version(3);
         let size = layout::size(l, tree.splits);
         if size <= buf.len() {
-            write::write(buf, l, 2, t);
+            write::write(buf, l, 3, t);
             return Saved::Size(size);
         }
         return Saved::Refused(refusal::SHORT_BUFFER);

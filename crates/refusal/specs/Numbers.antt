@@ -60,3 +60,27 @@ fullTally = 23
 -- 02, wish 2: "Taking back with no split made is refused with 24"
 abbrev pub noSplit : ℕ
 noSplit = 24
+
+-- 02, wish 3: "is refused whole with 25, after the record's 6 to 8"
+abbrev pub badTrace : ℕ
+badTrace = 25
+
+-- 02, wish 7: "A state of four zeros is refused with 26"
+abbrev pub zeroState : ℕ
+zeroState = 26
+
+-- 02, wish 10: "27 is given if an upper end differs, if the stage is above the new rule_splits, ..."
+abbrev pub unfitSettings : ℕ
+unfitSettings = 27
+
+-- 02, wish 12: "A NaN end or a lowest above its highest is refused with 28"
+abbrev pub badRanges : ℕ
+badRanges = 28
+
+-- 02, wish 12: "and then a list shorter than the number of leaves found with 29"
+abbrev pub shortList : ℕ
+shortList = 29
+
+-- 02, wish 14: "An n above 3, or a list that isn't one of them, is refused with 30"
+abbrev pub noSplitList : ℕ
+noSplitList = 30

@@ -30,3 +30,15 @@ pub const NO_RULE: u32 = 22;
 pub const FULL_TALLY: u32 = 23;
 // Nothing to take back: no split was made.
 pub const NO_SPLIT: u32 = 24;
+// A trace of another length or version than it says, or that is not whole events.
+pub const BAD_TRACE: u32 = 25;
+// A generator whose state is four zeros.
+pub const ZERO_STATE: u32 = 26;
+// New settings that a running training cannot take.
+pub const UNFIT_SETTINGS: u32 = 27;
+// Ranges with a NaN end, or a lowest above its highest.
+pub const BAD_RANGES: u32 = 28;
+// A list that is shorter than the leaves found.
+pub const SHORT_LIST: u32 = 29;
+// No list of splits of a small tree.
+pub const NO_SPLIT_LIST: u32 = 30;

@@ -11,7 +11,7 @@ use Rattle.refusal.specs.Guards.{Test, guarded}
 use Rattle.refusal.proofs.Guards.{always, numbered}
 use Rattle.remy.specs.declared.action.Action.{Action}
 use Rattle.remy.specs.declared.point.Point.{Point}
-use Rattle.remy.specs.Cube.{rootOf, containsOf, usualEnds}
+use Rattle.remy.specs.Cube.{rootOf, containsOf}
 use Rattle.rule_tree.specs.declared.Node.{Node}
 use Rattle.rule_tree.specs.declared.RuleTree.{RuleTree}
 use Rattle.rule_tree.specs.declared.AugmentedRuleTree.{AugmentedRuleTree}
@@ -50,9 +50,9 @@ changed ts t u =
 abbrev Changing : List Test → RuleTree → Changed → Type 0
 Changing ts t r = Guarded ts (λ (r : Changed). r .refused) (λ (r : Changed). r .tree) t r
 
-pub new-guarded : (a : Action) → Changing (newOrder a) blankTree (newOf a)
+pub new-guarded : (e : Point) (a : Action) → Changing (newOrder e a) blankTree (newOf e a)
 unfolding newOf
-new-guarded a = changed (newOrder a) blankTree (freshTree usualEnds a)
+new-guarded e a = changed (newOrder e a) blankTree (freshTree e a)
 
 pub set-guarded : (t : RuleTree) (i : ℕ) (a : Action) → Changing (actionOrder t i a) t (setOf t i a)
 unfolding setOf
@@ -107,12 +107,12 @@ replaced-told a p =
     (λ h. replaced-in (a .tree) (a .leaf) (a .action) p (leaf-inside (a .tree) (a .leaf) (h .0) (h .1 .0)) _ refl _ refl)
 
 pub view-told :
-    (nodes : List Node) (leaf : ℕ) (a : Action) (p : Point)
-    → lookedTold (viewOf nodes leaf a p) ≡ guarded (viewOrder nodes leaf a) refusedWith (told (viewGives nodes leaf a p))
+    (nodes : List Node) (ends : Point) (leaf : ℕ) (a : Action) (p : Point)
+    → lookedTold (viewOf nodes ends leaf a p) ≡ guarded (viewOrder nodes ends leaf a) refusedWith (told (viewGives nodes ends leaf a p))
 unfolding viewOf lookedTold
-view-told nodes leaf a p =
+view-told nodes ends leaf a p =
     both (λ (r : Looked) (v : Told Action). lookedTold r ≡ v) (eqb (length nodes) (nodeCount (parentsIn nodes)))
-    (replaced-told (record { tree = lentTree nodes; leaf = leaf; action = a }) p) refl
+    (replaced-told (record { tree = lentTree nodes ends; leaf = leaf; action = a }) p) refl
 
 -- ---- counts
 pub tally-told : (t : RuleTree) (xs : List ℕ) (p : Point) → talliedTold (tallyOf t xs p) ≡ guarded (tallyOrder t xs p) refusedWith (told (tallyGives t p))

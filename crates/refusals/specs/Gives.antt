@@ -60,8 +60,8 @@ lookupGives t p = atLeaf t p (λ i. actionIn (nodeAt (t .nodes) i))
 abbrev pub replacedGives : AugmentedRuleTree → Point → Given Action
 replacedGives a p = atLeaf (a .tree) p (λ i. cond (eqb i (a .leaf)) (a .action) (actionIn (nodeAt (a .tree .nodes) i)))
 
-abbrev pub viewGives : List Node → ℕ → Action → Point → Given Action
-viewGives nodes leaf a p = replacedGives (record { tree = lentTree nodes; leaf = leaf; action = a }) p
+abbrev pub viewGives : List Node → Point → ℕ → Action → Point → Given Action
+viewGives nodes ends leaf a p = replacedGives (record { tree = lentTree nodes ends; leaf = leaf; action = a }) p
 
 -- "a tally that adds one to the reached leaf's entry"
 abbrev pub tallyGives : RuleTree → Point → Given ℕ

@@ -47,10 +47,10 @@ pub record Guarded {A B : Type 0} (ts : List Test) (number : A → ℕ) (left : 
 
 -- ---- the view
 -- "node slice, not grown from the root leaf by splits"
-abbrev pub viewOrder : List Node → ℕ → Action → List Test
-viewOrder nodes leaf a =
-    test (eqb (length nodes) (nodeCount (parentsIn nodes))) notGrown ∷ test (grownOf (lentTree nodes)) notGrown
-    ∷ test (leafIn (lentTree nodes) leaf) noLeaf ∷ test (validOf a) notAdmitted ∷ []
+abbrev pub viewOrder : List Node → Point → ℕ → Action → List Test
+viewOrder nodes ends leaf a =
+    test (eqb (length nodes) (nodeCount (parentsIn nodes))) notGrown ∷ test (grownOf (lentTree nodes ends)) notGrown
+    ∷ test (leafIn (lentTree nodes ends) leaf) noLeaf ∷ test (validOf a) notAdmitted ∷ []
 
 -- ---- the trainer: "21, 4, 20"
 -- the counts make a trainer split: in phase 1, and in phase 2 with at most one count above 0

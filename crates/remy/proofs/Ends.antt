@@ -9,7 +9,8 @@ use lib.Ieee.Bits.{is-true}
 use lib.Ieee.Fits.{and-l, and-r, and-i}
 use denote.Floats.{passes}
 use Rattle.floats.specs.Interval.{End}
-use Rattle.floats.proofs.Order.{or-r, le-le-trans}
+use Rattle.floats.proofs.Order.{or-l, or-r, le-le-trans, lt-le-trans}
+use Rattle.floats.proofs.Same.{equal-same}
 use Rattle.floats.proofs.Zero.{Some, between-some, add-mono-some, add-min}
 use Rattle.remy.specs.declared.point.Point.{Point}
 use Rattle.remy.specs.Cube.{ack, send, ratio, leastEnd, mostEnd, endAdmitted, endsAdmitted, pointEqual, usualEnds, rootOf, Whole}
@@ -80,6 +81,27 @@ module _ (x : Float) (h : T (endAdmitted x)) where
       and-i (le leastEnd z) (le z mostEnd) (le-le-trans leastEnd x z from-one (eq-le x z (eq-sym z x e)))
       (le-le-trans z x mostEnd (eq-le z x e) to-most)
 
+above-zero-strictly : (y : Float) → T (endAdmitted y) → T (lt cubes.zero y)
+unfolding lt
+above-zero-strictly y k = lt-le-trans cubes.zero leastEnd y tt (and-l (le leastEnd y) (le y mostEnd) k)
+
+-- an end that equals another, and fits as it does, is the same
+equal-end : (x : Float) → T (endAdmitted x) → (z : Float) → T (fits binary64 z) → T (fits binary64 x) → T (eq z x) → z ≡ x
+equal-end x h z f g e = equal-same binary64 z x f g (above-zero-strictly z (equal-admitted x h z e)) (above-zero-strictly x h) e
+
+beq-self : (s : Bool) → T (Bool·beq s s)
+beq-self true = tt
+beq-self false = tt
+
+end-itself : (x : Float) → T (endAdmitted x) → T (eq x x)
+unfolding eq le lt
+end-itself nan h = absurd h
+end-itself (inf s) h = beq-self s
+end-itself (fin s m e) h =
+    and-i (eqb (m * up e * down e) (m * up e * down e)) (Bool·beq s s || eqb (m * up e * down e) 0)
+    (passes (eqb (m * up e * down e) (m * up e * down e)) (eq-eqb (m * up e * down e) (m * up e * down e) refl))
+    (or-l (Bool·beq s s) (eqb (m * up e * down e) 0) (beq-self s))
+
 -- ---- the three axes
 pub record Admitted (e : Point) : Type 0 where
   pub acks : T (endAdmitted (ack e))
@@ -120,6 +142,34 @@ equal-ends e u p h =
     (and-i (endAdmitted (ack e)) (endAdmitted (send e) && endAdmitted (ratio e)) (equal-admitted (ack u) (a .acks) (ack e) (and-l x (y && z) t))
     (and-i (endAdmitted (send e)) (endAdmitted (ratio e)) (equal-admitted (send u) (a .sends) (send e) (and-l y z k))
     (equal-admitted (ratio u) (a .ratios) (ratio e) (and-r y z k))))
+
+-- ends that equal admitted ones, and fit as they do, are the same
+pub same-ends : (e u : Point) → (T (fits binary64 (ack e)) × (T (fits binary64 (send e)) × T (fits binary64 (ratio e))))
+    → (T (fits binary64 (ack u)) × (T (fits binary64 (send u)) × T (fits binary64 (ratio u))))
+    → pointEqual e u ≡ true → endsAdmitted u ≡ true → e ≡ u
+unfolding pointEqual
+same-ends e u f g p h =
+    let a = admitted-axes u h in
+    let x = eq (ack e) (ack u) in
+    let y = eq (send e) (send u) in
+    let z = eq (ratio e) (ratio u) in
+    let t = passes (x && (y && z)) p in
+    let k = and-r x (y && z) t in
+    rebuilt (equal-end (ack u) (a .acks) (ack e) (f .0) (g .0) (and-l x (y && z) t))
+    (equal-end (send u) (a .sends) (send e) (f .1 .0) (g .1 .0) (and-l y z k))
+    (equal-end (ratio u) (a .ratios) (ratio e) (f .1 .1) (g .1 .1) (and-r y z k))
+  where
+    rebuilt : ack e ≡ ack u → send e ≡ send u → ratio e ≡ ratio u → e ≡ u
+    rebuilt p q r = λ j. cubes.pointOf (p j) (q j) (r j)
+
+-- admitted ends equal themselves
+pub ends-themselves : (e : Point) → endsAdmitted e ≡ true → pointEqual e e ≡ true
+unfolding pointEqual
+ends-themselves e h =
+    let a = admitted-axes e h in
+    is-true (pointEqual e e)
+    (and-i (eq (ack e) (ack e)) (eq (send e) (send e) && eq (ratio e) (ratio e)) (end-itself (ack e) (a .acks))
+    (and-i (eq (send e) (send e)) (eq (ratio e) (ratio e)) (end-itself (send e) (a .sends)) (end-itself (ratio e) (a .ratios))))
 
 pub usual-admitted : endsAdmitted usualEnds ≡ true
 unfolding endsAdmitted le

@@ -1,6 +1,6 @@
 // A point of a sender's memory.
 ghost use mathlib.Core.Path.{_≡_};
-ghost use Rattle.remy.specs.Cube.{usualEnds, pointOf, pointEqual};
+ghost use Rattle.remy.specs.Cube.{usualEnds, pointOf, pointEqual, endAdmitted, endsAdmitted};
 use quantities::TimeSpan;
 
 pub struct Point {
@@ -38,4 +38,25 @@ impl Point {
         }
         false
     }
+
+    // Upper ends that a box may have.
+    pub fn ends_admitted(self) -> bool
+        ensures { λ r. ⌜ r ≡ endsAdmitted self ⌝ }
+    {
+        if end_admitted(self.ack_ewma.0) {
+            if end_admitted(self.send_ewma.0) {
+                return end_admitted(self.rtt_ratio);
+            }
+        }
+        false
+    }
+}
+
+fn end_admitted(x: f64) -> bool
+    ensures { λ r. ⌜ r ≡ endAdmitted x ⌝ }
+{
+    if 1.0 <= x {
+        return x <= 1000000.0;
+    }
+    false
 }

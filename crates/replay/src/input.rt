@@ -110,23 +110,23 @@ pub(crate) fn point_at(bytes: &[u8], at: usize) -> Point
 // Every drill byte but 1 reads as false.
 pub(crate) fn settings_at(bytes: &[u8]) -> Settings {
     let rule_splits = word_at(bytes, 0) as u32;
-    let rounds = word_at(bytes, 4) as u32;
-    let multiplier = word_at(bytes, 8) as u32;
-    let drill = byte_at(bytes, 12) == 1;
+    let optimization_rounds_per_split = word_at(bytes, 4) as u32;
+    let action_change_multiplier = word_at(bytes, 8) as u32;
+    let drill_down = byte_at(bytes, 12) == 1;
     let min_action = action_at(bytes, 13);
     let max_action = action_at(bytes, 33);
-    let initial_change = action_at(bytes, 53);
-    let max_change = action_at(bytes, 73);
+    let initial_action_change = action_at(bytes, 53);
+    let max_action_change = action_at(bytes, 73);
     let default_action = action_at(bytes, 93);
     Settings {
         rule_splits,
-        rounds,
-        multiplier,
-        drill,
+        optimization_rounds_per_split,
+        action_change_multiplier,
+        drill_down,
         min_action,
         max_action,
-        initial_change,
-        max_change,
+        initial_action_change,
+        max_action_change,
         default_action,
     }
 }

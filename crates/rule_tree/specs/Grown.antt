@@ -9,7 +9,7 @@ use mir.Syntax.{w32}
 use mir.Val.{ofZ}
 use Rattle.remy.specs.declared.point.Point.{Point}
 use Rattle.remy.specs.Action.{validOf}
-use Rattle.remy.specs.Cube.{pointEqual, usualEnds}
+use Rattle.remy.specs.Cube.{endsAdmitted}
 use Rattle.rule_tree.specs.declared.Node.{Node}
 use Rattle.rule_tree.specs.declared.RuleTree.{RuleTree}
 use Rattle.rule_tree.specs.Lists.{allBelow, occurrences, tabulate}
@@ -48,10 +48,10 @@ slotHolds x used = cond used (validOf (actionIn x)) (plainOf x)
 abbrev pub payloadsHold : List Node → ℕ → Bool
 payloadsHold nodes s = allBelow slots (λ i. slotHolds (nodeAt nodes i) (ltb i (nodeCount s)))
 
--- "Root: 0 to 600 s, 0 to 600 s, 0 to 1000"
+-- 02, wish 8: "Let the three upper ends be settings, each from 1 to 1,000,000; lower ends remain 0"
 unfoldable pub endsHold : Point → Bool
-unfolding pointEqual
-endsHold e = pointEqual e usualEnds
+unfolding endsAdmitted
+endsHold e = endsAdmitted e
 
 unfoldable pub grownOf : RuleTree → Bool
 unfolding linkedOf slotHolds endsHold

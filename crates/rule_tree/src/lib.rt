@@ -132,17 +132,24 @@ impl AugmentedRuleTree {
 }
 
 impl RuleTree {
-    // One leaf, the root, with the action. A refused start hands back a tree that every call refuses.
-    pub fn new(action: Action) -> Changed
-        ensures { λ r. ⌜ r ≡ newOf action ⌝ }
+    // One leaf, the root, with its upper ends and the action. A refused start hands back a tree that every call refuses.
+    pub fn new(ends: Point, action: Action) -> Changed
+        ensures { λ r. ⌜ r ≡ newOf ends action ⌝ }
     {
-        if action.valid() {
-            let tree = inner::change::fresh(Point::usual_ends(), action);
-            return Changed { refused: 0, tree };
+        if inner::links::ends_hold(ends) {
+            if action.valid() {
+                let tree = inner::change::fresh(ends, action);
+                return Changed { refused: 0, tree };
+            }
+            let tree = inner::change::blank();
+            return Changed {
+                refused: refusal::NOT_ADMITTED,
+                tree,
+            };
         }
         let tree = inner::change::blank();
         Changed {
-            refused: refusal::NOT_ADMITTED,
+            refused: refusal::BAD_SETTINGS,
             tree,
         }
     }

@@ -6,11 +6,10 @@ use native.Mathlib.Omega.{arith}
 use lib.ListN.{length}
 use Rattle.remy.specs.declared.action.Action.{Action}
 use Rattle.remy.specs.Action.{validOf}
-use Rattle.remy.specs.Cube.{usualEnds}
 use Rattle.rule_tree.specs.declared.Node.{Node}
 use Rattle.rule_tree.specs.declared.RuleTree.{RuleTree}
 use Rattle.rule_tree.specs.Nodes.{nodeAt, nodeCount, noAction, blankNode, actionIn, nodeHolding}
-use Rattle.rule_tree.specs.Grown.{plainOf, grownOf}
+use Rattle.rule_tree.specs.Grown.{plainOf, endsHold, grownOf}
 use Rattle.rule_tree.proofs.LinkWays.{children-at}
 use Rattle.rule_tree.proofs.Plain.{ActionFits, PointFits, plain-action, plain-unmarked}
 use Rattle.rule_tree.proofs.Links as links
@@ -33,7 +32,7 @@ pub record Owning (t : RuleTree) (k : ℕ) : Type 0 where
 pub record Sound (t : RuleTree) : Type 0 where
   pub full : length (t .nodes) ≡ 513
   pub few : t .splits ≤ 64
-  pub ends : t .ends ≡ usualEnds
+  pub ends : endsHold (t .ends) ≡ true
   pub link : (i : ℕ) → i < 513 → (kids t i ≡ 0 → ⊥) → links.Link (t .splits) (kids t i) i
   pub owner : (k : ℕ) → k < t .splits → Owning t k
   pub only : (i j : ℕ) → i < 513 → j < 513 → (kids t i ≡ 0 → ⊥) → kids t j ≡ kids t i → j ≡ i
@@ -53,7 +52,7 @@ grown-sound t f g =
     record {
       full = f .full;
       few = links.grown-splits t g;
-      ends = links.grown-ends t g (f .ends);
+      ends = links.grown-ends-hold t g;
       link = λ i l n. linked i l n;
       owner = λ k l. owned k l;
       only = λ i j a b n e. links.grown-only t g i j a (λ z. n (sym (at i) ∙ z)) (at j ∙ e ∙ sym (at i));

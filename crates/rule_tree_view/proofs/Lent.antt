@@ -11,7 +11,6 @@ use lib.ListN.{length, getD, take, drop, replicate, length-append, length-replic
 use lib.Seq.{length-take-le, getD-take, getD-drop, getD-append-add, ext-getD}
 use Rattle.remy.specs.Action.{validOf}
 use Rattle.rule_tree.specs.declared.Node.{Node}
-use Rattle.rule_tree.specs.declared.RuleTree.{RuleTree}
 use Rattle.rule_tree.specs.Lists.{countBelow}
 use Rattle.rule_tree.specs.Nodes.{noNode, nodeAt, isLeaf, blankNode, childrenOf, actionIn}
 use Rattle.rule_tree.specs.Grown.{linkHolds, linkedOf}
@@ -20,7 +19,7 @@ use Rattle.rule_tree.proofs.LinkWays.{children-at, children-count}
 use Rattle.rule_tree.proofs.GrownTree.{Parent, link-parts}
 use Rattle.rule_tree.proofs.Owners.{below-or-not}
 use Rattle.rule_tree.proofs.Walking.{linked-links}
-use Rattle.rule_tree_view.specs.View.{parentsIn, lentTree, linkOf, linksOf, linkedParents}
+use Rattle.rule_tree_view.specs.View.{parentsIn, lentNodes, linkOf, linksOf, linkedParents}
 use Rattle.rule_tree_view.proofs.Gathering.{mapped-at, link-valid, link-invalid}
 use Rattle.rule_tree_view.proofs.Parents.{count-same}
 
@@ -39,29 +38,29 @@ count-past (suc m) n f g l s z =
     (eq-or-lt-of-le l)
 
 module _ (nodes : List Node) where
-  abbrev t : RuleTree
-  t = lentTree nodes
+  abbrev all : List Node
+  all = lentNodes nodes
 
   abbrev n : ℕ
   n = length nodes
 
   -- ---- the tree's nodes
-  pub lent-full : n ≤ 513 → length (t .nodes) ≡ 513
+  pub lent-full : n ≤ 513 → length all ≡ 513
   lent-full l = omega (arith, length-append nodes (replicate (513 - n) blankNode), length-replicate (513 - n) blankNode)
 
-  pub lent-used : (i : ℕ) → i < n → nodeAt (t .nodes) i ≡ nodeAt nodes i
+  pub lent-used : (i : ℕ) → i < n → nodeAt all i ≡ nodeAt nodes i
   lent-used i l = List·getD-append nodes (replicate (513 - n) blankNode) noNode i l
 
-  pub lent-blank : (i : ℕ) → n ≤ i → i < 513 → nodeAt (t .nodes) i ≡ blankNode
+  pub lent-blank : (i : ℕ) → n ≤ i → i < 513 → nodeAt all i ≡ blankNode
   lent-blank i l m =
-      subst (λ (k : ℕ). nodeAt (t .nodes) k ≡ blankNode) (omega arith)
+      subst (λ (k : ℕ). nodeAt all k ≡ blankNode) (omega arith)
       (getD-append-add nodes (replicate (513 - n) blankNode) (i - n) noNode ∙ getD-replicate (513 - n) (i - n) blankNode noNode (omega arith))
 
-  pub parents-counted : n ≤ 513 → linkedParents (childrenOf (t .nodes)) ≡ parentsIn nodes
+  pub parents-counted : n ≤ 513 → linkedParents (childrenOf all) ≡ parentsIn nodes
   parents-counted l =
-      count-past 513 n (λ i. not (eqb (getD (childrenOf (t .nodes)) i 0) 0)) (λ i. not (isLeaf nodes i)) l
-      (λ i b. ap (λ (k : ℕ). not (eqb k 0)) (children-at (t .nodes) i ∙ ap (λ (x : Node). x .children) (lent-used i b)))
-      (λ i b m. ap (λ (k : ℕ). not (eqb k 0)) (children-at (t .nodes) i ∙ ap (λ (x : Node). x .children) (lent-blank i b m)))
+      count-past 513 n (λ i. not (eqb (getD (childrenOf all) i 0) 0)) (λ i. not (isLeaf nodes i)) l
+      (λ i b. ap (λ (k : ℕ). not (eqb k 0)) (children-at all i ∙ ap (λ (x : Node). x .children) (lent-used i b)))
+      (λ i b m. ap (λ (k : ℕ). not (eqb k 0)) (children-at all i ∙ ap (λ (x : Node). x .children) (lent-blank i b m)))
 
   -- ---- the links that are gathered
   module _ (few : n ≤ 513) where
@@ -89,16 +88,16 @@ module _ (nodes : List Node) where
         ∙ getD-drop n (replicate 513 0) (i - n) 0
         ∙ getD-replicate 513 (n + (i - n)) 0 0 (omega arith))
 
-    pub links-all : ((i : ℕ) → i < n → validOf (actionIn (nodeAt nodes i)) ≡ true) → linksOf nodes n ≡ childrenOf (t .nodes)
+    pub links-all : ((i : ℕ) → i < n → validOf (actionIn (nodeAt nodes i)) ≡ true) → linksOf nodes n ≡ childrenOf all
     links-all v =
-        ext-getD 0 (linksOf nodes n) (childrenOf (t .nodes)) (links-full ∙ sym (children-count (t .nodes) ∙ lent-full few))
+        ext-getD 0 (linksOf nodes n) (childrenOf all) (links-full ∙ sym (children-count all ∙ lent-full few))
         (λ i b. ⊎-elim
         (λ (l : i < n).
         links-at i l ∙ sym (link-valid (nodeAt nodes i) true (sym (v i l)) refl)
-        ∙ sym (children-at (t .nodes) i ∙ ap (λ (x : Node). x .children) (lent-used i l)))
+        ∙ sym (children-at all i ∙ ap (λ (x : Node). x .children) (lent-used i l)))
         (λ (l : n ≤ i).
         let m : i < 513 = omega (arith, b, links-full) in
-        links-past i l m ∙ sym (children-at (t .nodes) i ∙ ap (λ (x : Node). x .children) (lent-blank i l m)))
+        links-past i l m ∙ sym (children-at all i ∙ ap (λ (x : Node). x .children) (lent-blank i l m)))
         (below-or-not i n))
 
     -- no tested link is that of an action that is not valid

@@ -1,10 +1,10 @@
-// The tree with one leaf's action replaced, seen through a lent slice of its nodes.
+// The tree with one leaf's action replaced, seen through a lent slice of its nodes, with the upper ends of its box.
 ghost use mathlib.Core.Path.{_≡_};
 ghost use mathlib.Core.Bool.{true};
 ghost use Prim.Native.Nat.{_≤_, min};
 ghost use lib.ListN.{length, getD, take, replicate};
 ghost use Rattle.rule_tree.specs.Nodes.{blankNode};
-ghost use Rattle.rule_tree.specs.Grown.{linkedOf};
+ghost use Rattle.rule_tree.specs.Grown.{linkedOf, endsHold};
 ghost use Rattle.rule_tree_view.specs.View.{viewWith, viewOf, replacedIn, linkOf, linksOf, countOf, linkedParents, leafAmong, reachedOf, toldOf, placeOf, answerOf};
 use remy::action::Action;
 use remy::cube::Cube;
@@ -15,6 +15,7 @@ use rule_tree::RuleTree;
 
 pub struct AugmentedView<'a> {
     pub nodes: &'a [Node],
+    pub ends: Point,
     pub leaf: u16,
     pub action: Action,
 }
@@ -109,13 +110,12 @@ fn is_leaf(links: &[u16; 513], n: usize, leaf: u16) -> bool
     false
 }
 
-// Where p's way ends, by links that were tested.
-fn reached(links: &[u16; 513], s: u16, leaf: u16, action: Action, p: Point) -> Told
-    requires { ⌜ linkedOf (now links) s ≡ true ⌝ }
-    ensures { λ r. ⌜ r ≡ reachedOf (now (links .entry)) leaf action p ⌝ }
+// Where p's way ends, by links and ends that were tested.
+fn reached(links: &[u16; 513], s: u16, ends: Point, leaf: u16, action: Action, p: Point) -> Told
+    requires { ⌜ (linkedOf (now links) s ≡ true) × (endsHold ends ≡ true) ⌝ }
+    ensures { λ r. ⌜ r ≡ reachedOf (now (links .entry)) ends leaf action p ⌝ }
 {
-    let e = Point::usual_ends();
-    let root = Cube::root(e);
+    let root = Cube::root(ends);
     if root.contains(p) {
         let node = rule_tree::inner::walk::walk(links, root, p).node;
         if node == leaf {
@@ -128,22 +128,24 @@ fn reached(links: &[u16; 513], s: u16, leaf: u16, action: Action, p: Point) -> T
     Told::Known(none)
 }
 
-// What the links of a slice of n nodes tell of a lookup with the leaf's action replaced.
-fn tell(n: usize, links: [u16; 513], leaf: u16, action: Action, p: Point) -> Told
-    ensures { λ r. ⌜ r ≡ toldOf n links leaf action p ⌝ }
+// What the links of a slice of n nodes, and its ends, tell of a lookup with the leaf's action replaced.
+fn tell(n: usize, links: [u16; 513], ends: Point, leaf: u16, action: Action, p: Point) -> Told
+    ensures { λ r. ⌜ r ≡ toldOf n links ends leaf action p ⌝ }
 {
     let s = parent_count(&links);
     if n == 1 + 8 * (s as usize) {
         if rule_tree::inner::links::linked(&links, s) {
-            if is_leaf(&links, n, leaf) {
-                if action.valid() {
-                    return reached(&links, s, leaf, action, p);
+            if rule_tree::inner::links::ends_hold(ends) {
+                if is_leaf(&links, n, leaf) {
+                    if action.valid() {
+                        return reached(&links, s, ends, leaf, action, p);
+                    }
+                    let one = Looked::Refused(refusal::NOT_ADMITTED);
+                    return Told::Known(one);
                 }
-                let one = Looked::Refused(refusal::NOT_ADMITTED);
-                return Told::Known(one);
+                let three = Looked::Refused(refusal::NO_LEAF);
+                return Told::Known(three);
             }
-            let three = Looked::Refused(refusal::NO_LEAF);
-            return Told::Known(three);
         }
     }
     let ten = Looked::Refused(refusal::NOT_GROWN);
@@ -182,23 +184,24 @@ fn answer(nodes: &[Node], told: Told) -> Looked
 }
 
 impl<'a> AugmentedView<'a> {
-    pub fn new(nodes: &'a [Node], leaf: u16, action: Action) -> AugmentedView<'a>
-        ensures { λ r. ⌜ r ≡ viewWith (nodes .entry) leaf action ⌝ }
+    pub fn new(nodes: &'a [Node], ends: Point, leaf: u16, action: Action) -> AugmentedView<'a>
+        ensures { λ r. ⌜ r ≡ viewWith (nodes .entry) ends leaf action ⌝ }
     {
         AugmentedView {
             nodes,
+            ends,
             leaf,
             action,
         }
     }
 
     pub fn action(self, p: Point) -> Looked
-        ensures { λ r. ⌜ r ≡ viewOf (now (self .entry .nodes)) (self .entry .leaf) (self .entry .action) p ⌝ }
+        ensures { λ r. ⌜ r ≡ viewOf (now (self .entry .nodes)) (self .entry .ends) (self .entry .leaf) (self .entry .action) p ⌝ }
     {
         let n = self.nodes.len();
         let k = count(n);
         let links = gather(self.nodes, k);
-        let told = tell(n, links, self.leaf, self.action, p);
+        let told = tell(n, links, self.ends, self.leaf, self.action, p);
         answer(self.nodes, told)
     }
 }
@@ -213,11 +216,18 @@ fn at_most(n: usize) -> usize
 }
 
 // Lookup through a view of the first n of nodes that are the caller's own.
-pub fn looked_part(nodes: [Node; 513], n: usize, leaf: u16, action: Action, p: Point) -> Looked
-    ensures { λ r. ⌜ r ≡ viewOf (take n nodes) leaf action p ⌝ }
+pub fn looked_part(
+    nodes: [Node; 513],
+    n: usize,
+    ends: Point,
+    leaf: u16,
+    action: Action,
+    p: Point,
+) -> Looked
+    ensures { λ r. ⌜ r ≡ viewOf (take n nodes) ends leaf action p ⌝ }
 {
     let k = at_most(n);
-    let view = AugmentedView::new(&nodes[..k], leaf, action);
+    let view = AugmentedView::new(&nodes[..k], ends, leaf, action);
     view.action(p)
 }
 
@@ -228,7 +238,7 @@ pub fn looked_through(tree: RuleTree, leaf: u16, action: Action, p: Point) -> Lo
     if tree.grown() {
         let nodes = tree.nodes;
         let n = 1 + 8 * (tree.splits as usize);
-        return looked_part(nodes, n, leaf, action, p);
+        return looked_part(nodes, n, tree.ends, leaf, action, p);
     }
     Looked::Refused(refusal::NOT_GROWN)
 }

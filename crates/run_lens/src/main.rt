@@ -1,7 +1,7 @@
 // A short script of calls with the settings of the Rust's default trainer. The words that are compared, one a line.
 use libc::STDOUT_FILENO;
 
-const SCRIPT: [u64; 76] = [
+const SCRIPT: [u64; 79] = [
     // rule_splits, rounds, multiplier, drill
     12,
     2,
@@ -54,6 +54,10 @@ const SCRIPT: [u64; 76] = [
     0,
     0,
     0,
+    // the usual upper ends
+    0x4082_c000_0000_0000,
+    0x4082_c000_0000_0000,
+    0x408f_4000_0000_0000,
     // counts: the leaf is taken
     1,
     1,

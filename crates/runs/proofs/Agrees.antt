@@ -39,7 +39,7 @@ use Rattle.promise.proofs.Accepted.{tree-of}
 use Rattle.promise.proofs.Begins.{start-valid}
 use Rattle.promise.proofs.Questions.{question-embeds}
 use Rattle.promise.proofs.StepsKeep.{step-valid}
-use Rattle.promise.proofs.Fitting.{FitState, step-fits, start-fits}
+use Rattle.promise.proofs.Fitting.{FitState, point-fits, step-fits, start-fits}
 use Rattle.promise.proofs.Reload.{save-embeds, saved-embeds, record-length}
 use Rattle.promise.proofs.Runs.{step-embeds, starts-alike}
 use Rattle.promise.proofs.TreeGrown.{grown-embeds}
@@ -185,10 +185,10 @@ start-agrees :
     ≡ askedWords (question (start s)) ++ comparedFrom (start s) (plainStart x) is
 start-agrees s x is k f h =
     ap (λ (t : Trainer). questionWords (questionOf t) ++ ranFrom t x is) (starts-alike s k)
-    ∙ ap (λ (ws : List ℕ). ws ++ ranFrom (embed (start s)) x is) (question-agrees (start s) (start-valid s k))
+    ∙ ap (λ (ws : List ℕ). ws ++ ranFrom (embed (start s)) x is) (question-agrees (start s) (start-valid s k (point-fits (f .ends))))
     ∙ ap (λ (y : Sender). askedWords (question (start s)) ++ ranFrom (embed (start s)) y is) (sym (start-renders x))
     ∙ ap (λ (ws : List ℕ). askedWords (question (start s)) ++ ws)
-    (from-agrees is (start s) (plainStart x) (start-valid s k) (start-fits s k f) h)
+    (from-agrees is (start s) (plainStart x) (start-valid s k (point-fits (f .ends))) (start-fits s k f) h)
 
 with-agrees :
     (s : Settings) (m : Made) (taken : Bool) (x : Sender) (is : List Item) → m ≡ cond taken (made.Ready x) (made.Refused 2) → FitSettings s

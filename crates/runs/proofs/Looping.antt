@@ -135,18 +135,18 @@ module _ {Whole : ℕ → List ℕ → Type 0} (script old out : List ℕ) (r : 
   stood-last h w u = end Whole script r p size (s .sized) out h (s .fit) w u (s .rest)
 
 -- ---- the start
-from-first : (script : List ℕ) → drop (min 43 (length script)) script ≡ drop 43 script
-from-first script = ⊎-elim inside past (lt-or-le 43 (length script))
+from-first : (script : List ℕ) → drop (min 46 (length script)) script ≡ drop 46 script
+from-first script = ⊎-elim inside past (lt-or-le 46 (length script))
   where
-    inside : 43 < length script → drop (min 43 (length script)) script ≡ drop 43 script
-    inside h = ap (λ (k : ℕ). drop k script) (let e : min 43 (length script) ≡ 43 = omega arith in e)
+    inside : 46 < length script → drop (min 46 (length script)) script ≡ drop 46 script
+    inside h = ap (λ (k : ℕ). drop k script) (let e : min 46 (length script) ≡ 46 = omega arith in e)
 
-    past : length script ≤ 43 → drop (min 43 (length script)) script ≡ drop 43 script
-    past h = drop-of-length-le script {i = min 43 (length script)} (omega arith) ∙ sym (drop-of-length-le script h)
+    past : length script ≤ 46 → drop (min 46 (length script)) script ≡ drop 46 script
+    past h = drop-of-length-le script {i = min 46 (length script)} (omega arith) ∙ sym (drop-of-length-le script h)
 
 -- 0, the question, and the calls
 pub begun : (t : Trainer) (s : Sender) (script out : List ℕ) (p : ℕ) {q : Question} {n at m : ℕ} {one two after : List ℕ}
-    → p ≡ min 43 (length script) → q ≡ questionOf t → Puts out 0 (0 ∷ []) n one → Puts one n (questionWords q) at two
+    → p ≡ min 46 (length script) → q ≡ questionOf t → Puts out 0 (0 ∷ []) n one → Puts one n (questionWords q) at two
     → Puts two at (wordsFrom script (record { trainer = t; sender = s; at = at }) p) m after
     → Puts out 0 (0 ∷ (questionWords (questionOf t) ++ ranFrom t s (callsOf script))) m after
 begun t s script out p {n = n} {at = at} {one = one} {two = two} e f a b c =

@@ -14,6 +14,7 @@ use mir.Syntax.{w32}
 use mir.Val.{toZ}
 use Rattle.remy.specs.declared.action.Action.{Action}
 use Rattle.remy.specs.Action.{actionOf}
+use Rattle.remy.specs.declared.point.Point.{Point}
 use Rattle.remy.specs.Cube.{pointOf}
 use Rattle.rule_tree.specs.declared.RuleTree.{RuleTree}
 use Rattle.trainer.specs.declared.settings.Settings.{Settings}
@@ -21,7 +22,7 @@ use Rattle.sender.specs.declared.RepeatMode.the-variants.{Off, Always, Between}
 use Rattle.sender.specs.declared.Draw.{Draw}
 use Rattle.promise.specs.PlainTrainer.{counts, score, reload}
 use Rattle.sender.specs.SenderCall as runs
-use Rattle.runs.specs.Script.{Item, train, lookup, word, number, float, action, settings, mode, drawOf, bytesOf, sizeOf, itemOf, wholeOf, itemsOf}
+use Rattle.runs.specs.Script.{Item, train, lookup, word, number, float, action, ends, settings, mode, drawOf, bytesOf, sizeOf, itemOf, wholeOf, itemsOf}
 use Rattle.runs.specs.Turn.{First, fixedSize, listedSize, wholeSize, trainerCall, senderCall}
 use Rattle.runs.proofs.Putting.{lt-or-le}
 
@@ -32,33 +33,38 @@ action-read ws i e p q s t =
     let z = q ∙ ap (toZ w32) s in
     e ∙ (λ j. record { «window_multiplier» = p j; «window_increment» = z j; «intersend_delay» = record { 0 = t j } })
 
-pub settings-read : (ws : List ℕ) {a b c : ℕ} {d : Bool} {e f g h k : Action} → a ≡ number ws 0 → b ≡ number ws 1 → c ≡ number ws 2
-    → d ≡ eqb (word ws 3) 1 → e ≡ action ws 4 → f ≡ action ws 7 → g ≡ action ws 10 → h ≡ action ws 13 → k ≡ action ws 16
+pub ends-read : (ws : List ℕ) {a s r : Float} {p : Point} → p ≡ pointOf a s r → a ≡ float ws 43 → s ≡ float ws 44 → r ≡ float ws 45 → p ≡ ends ws
+ends-read ws e a s r = e ∙ (λ j. pointOf (a j) (s j) (r j))
+
+pub settings-read : (ws : List ℕ) {a b c : ℕ} {d : Bool} {e f g h k : Action} {p : Point} → a ≡ number ws 0 → b ≡ number ws 1 → c ≡ number ws 2
+    → d ≡ eqb (word ws 3) 1 → e ≡ action ws 4 → f ≡ action ws 7 → g ≡ action ws 10 → h ≡ action ws 13 → k ≡ action ws 16 → p ≡ ends ws
     → _≡_ {A = Settings}
     (record {
       «rule_splits» = a;
-      rounds = b;
-      multiplier = c;
-      drill = d;
+      «optimization_rounds_per_split» = b;
+      «action_change_multiplier» = c;
+      «drill_down» = d;
       «min_action» = e;
       «max_action» = f;
-      «initial_change» = g;
-      «max_change» = h;
+      «initial_action_change» = g;
+      «max_action_change» = h;
       «default_action» = k;
+      ends = p;
     })
     (settings ws)
-settings-read ws a b c d e f g h k =
+settings-read ws a b c d e f g h k p =
     λ j.
     record {
       «rule_splits» = a j;
-      rounds = b j;
-      multiplier = c j;
-      drill = d j;
+      «optimization_rounds_per_split» = b j;
+      «action_change_multiplier» = c j;
+      «drill_down» = d j;
       «min_action» = e j;
       «max_action» = f j;
-      «initial_change» = g j;
-      «max_change» = h j;
+      «initial_action_change» = g j;
+      «max_action_change» = h j;
       «default_action» = k j;
+      ends = p j;
     }
 
 module _ (ws : List ℕ) (kind : ℕ) (is : kind ≡ word ws 20) where

@@ -21,6 +21,7 @@ settings-fit ws =
       initial = action-fits ws 10;
       largest = action-fits ws 13;
       default = action-fits ws 16;
+      ends = record { acks = read-fits (word ws 43); sends = read-fits (word ws 44); ratios = read-fits (word ws 45) };
     }
 
 -- ---- calls
@@ -56,4 +57,4 @@ items-fit (suc n) ws = go (wholeOf ws) (items-fit n (drop (sizeOf ws) ws))
     go false h = tt
 
 pub calls-fit : (ws : List ℕ) → Every FitItem (callsOf ws)
-calls-fit ws = items-fit (length ws) (drop 43 ws)
+calls-fit ws = items-fit (length ws) (drop 46 ws)

@@ -41,19 +41,24 @@ float ws i = ofBits binary64 (word ws i)
 abbrev pub action : List ℕ → ℕ → Action
 action ws i = actionOf (float ws i) (toZ w32 (number ws (i + 1))) (float ws (i + 2))
 
--- the first 19 words
+-- the upper ends: words 43 to 45, after the sender
+abbrev pub ends : List ℕ → Point
+ends ws = pointOf (float ws 43) (float ws 44) (float ws 45)
+
+-- the first 19 words, and the upper ends
 abbrev pub settings : List ℕ → Settings
 settings ws =
     record {
       «rule_splits» = number ws 0;
-      rounds = number ws 1;
-      multiplier = number ws 2;
-      drill = eqb (word ws 3) 1;
+      «optimization_rounds_per_split» = number ws 1;
+      «action_change_multiplier» = number ws 2;
+      «drill_down» = eqb (word ws 3) 1;
       «min_action» = action ws 4;
       «max_action» = action ws 7;
-      «initial_change» = action ws 10;
-      «max_change» = action ws 13;
+      «initial_action_change» = action ws 10;
+      «max_action_change» = action ws 13;
       «default_action» = action ws 16;
+      ends = ends ws;
     }
 
 -- word 19: 0 for a fresh sender of the mode that follows, any other number for a sender handed in, whose whole state follows
@@ -146,4 +151,4 @@ itemsOf (suc n) ws = cond (wholeOf ws) (itemOf ws ∷ itemsOf n (drop (sizeOf ws
 
 -- all of them: each takes a word at least
 abbrev pub callsOf : List ℕ → List Item
-callsOf ws = itemsOf (length ws) (drop 43 ws)
+callsOf ws = itemsOf (length ws) (drop 46 ws)

@@ -104,9 +104,9 @@ fn make_calls(r: State, script: &[u64], from: usize, out: &mut [u64]) -> usize
 
 // The place of the first call.
 fn first(script: &[u64]) -> usize
-    ensures { λ r. ⌜ r ≡ min 43 (length (now (script .entry))) ⌝ }
+    ensures { λ r. ⌜ r ≡ min 46 (length (now (script .entry))) ⌝ }
 {
-    if 43 <= script.len() { 43 } else { script.len() }
+    if 46 <= script.len() { 46 } else { script.len() }
 }
 
 // All that follows a start that is not refused.

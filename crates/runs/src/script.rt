@@ -10,6 +10,7 @@ ghost use Rattle.runs.specs.Turn.{fixedSize, listedSize, wholeSize};
 use quantities::Time;
 use quantities::TimeSpan;
 use remy::action::Action;
+use remy::point::Point;
 use sender::Average;
 use sender::Draw;
 use sender::Moment;
@@ -59,28 +60,40 @@ fn action(ws: &[u64], i: usize) -> Action
     Action::new(multiplier, increment, delay)
 }
 
+// The upper ends, which stand after the sender.
+fn ends(ws: &[u64]) -> Point
+    ensures { λ r. ⌜ r ≡ spec.ends (now (ws .entry)) ⌝ }
+{
+    let ack = float(ws, 43);
+    let send = float(ws, 44);
+    let ratio = float(ws, 45);
+    Point::new(ack, send, ratio)
+}
+
 pub(crate) fn settings(ws: &[u64]) -> Settings
     ensures { λ r. ⌜ r ≡ spec.settings (now (ws .entry)) ⌝ }
 {
     let rule_splits = number(ws, 0);
-    let rounds = number(ws, 1);
-    let multiplier = number(ws, 2);
-    let drill = word(ws, 3) == 1;
+    let optimization_rounds_per_split = number(ws, 1);
+    let action_change_multiplier = number(ws, 2);
+    let drill_down = word(ws, 3) == 1;
     let min_action = action(ws, 4);
     let max_action = action(ws, 7);
-    let initial_change = action(ws, 10);
-    let max_change = action(ws, 13);
+    let initial_action_change = action(ws, 10);
+    let max_action_change = action(ws, 13);
     let default_action = action(ws, 16);
+    let ends = ends(ws);
     Settings {
         rule_splits,
-        rounds,
-        multiplier,
-        drill,
+        optimization_rounds_per_split,
+        action_change_multiplier,
+        drill_down,
         min_action,
         max_action,
-        initial_change,
-        max_change,
+        initial_action_change,
+        max_action_change,
         default_action,
+        ends,
     }
 }
 

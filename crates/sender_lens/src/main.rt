@@ -1,6 +1,7 @@
 // A sender at work, printed: which acks look up, which repeat, and what is refused.
 use libc::STDOUT_FILENO;
 use remy::action::Action;
+use remy::point::Point;
 use rule_tree::RuleTree;
 use sender::Draw;
 use sender::Event;
@@ -63,7 +64,7 @@ fn answered(s: Sender, r: Reply) -> Sender {
 // An ack over a tree of one leaf, whose action adds to the window and waits 0.25 s.
 fn ack(s: Sender, increment: i32, sent: f64, received: f64, draw: Draw) -> Sender {
     let action = Action::new(1.0, increment, 0.25);
-    let tree = RuleTree::new(action).tree;
+    let tree = RuleTree::new(Point::usual_ends(), action).tree;
     let r = s.ack_received(tree, sent, received, draw);
     answered(s, r)
 }
@@ -206,7 +207,7 @@ fn events() {
         RepeatMode::Off,
     );
     let action = Action::new(1.0, 10, 0.25);
-    let tree = RuleTree::new(action).tree;
+    let tree = RuleTree::new(Point::usual_ends(), action).tree;
     let s1 = event(s, tree, Event::Send(2.0));
     let s2 = event(s1, tree, Event::Ack(2.0, 2.5, Draw::Absent));
     let s3 = event(s2, tree, Event::Tick);

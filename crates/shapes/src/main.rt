@@ -165,7 +165,7 @@ fn action(n: i32) -> Action {
 
 fn fresh() -> RuleTree {
     let a = action(7);
-    let made = RuleTree::new(a);
+    let made = RuleTree::new(Point::usual_ends(), a);
     made.tree
 }
 
@@ -358,7 +358,7 @@ fn refusals(t: RuleTree) {
     let bad = Action::new(0.0 / 0.0, 0, 0.0);
     let good = action(9);
     say(b"new, no action: ");
-    show_changed(RuleTree::new(bad));
+    show_changed(RuleTree::new(Point::usual_ends(), bad));
     say(b"set 3: ");
     show_changed(t.set_action(3, good));
     say(b"set 3, no action: ");
@@ -469,6 +469,9 @@ fn no_payloads(t: RuleTree) {
     say(b"other ends: ");
     let mut wide = t;
     wide.ends = Point::new(600.0, 600.0, 1001.0);
+    parents(wide);
+    say(b"an end that no box may have: ");
+    wide.ends = Point::new(600.0, 600.0, 1000001.0);
     parents(wide);
 }
 

@@ -16,7 +16,7 @@ use Rattle.rule_tree.proofs.GrownTree.{leaf-below}
 use Rattle.trainer.specs.declared.Trainer.{Trainer}
 use Rattle.trainer.specs.Settings.{settingsHold}
 use Rattle.trainer.specs.Candidates.{candidatesOf}
-use Rattle.trainer.specs.State.{none, zeroBits, untriedIn, keptIn, keptHolds, untried, idle, leafAction, leafHolds, tryHolds, splitting, tuning, ending, phaseHolds, acceptedOf}
+use Rattle.trainer.specs.State.{none, zeroBits, untriedIn, keptIn, keptHolds, untried, idle, leafAction, leafHolds, tryHolds, splitting, tuning, ending, boxHolds, phaseHolds, acceptedOf}
 use Rattle.trainer.specs.Fields.{idleIn, splittingIn, tuningIn, endingIn, leafHoldsIn}
 
 -- ---- two tests in turn: a is the first of them, as a call answered it
@@ -133,7 +133,7 @@ module _ (t : Trainer) where
   unfolding splittingIn splitting
   splitting-is = refl
 
-  pub tuning-is : tuningIn (t .stage) (t .settings .«rule_splits») (t .round) (t .settings .rounds) ≡ tuning t
+  pub tuning-is : tuningIn (t .stage) (t .settings .«rule_splits») (t .round) (t .settings .«optimization_rounds_per_split») ≡ tuning t
   unfolding tuningIn tuning
   tuning-is = refl
 
@@ -145,22 +145,31 @@ module _ (t : Trainer) where
   unfolding leafHoldsIn leafHolds
   leaf-is = refl
 
-  pub accepted-is : acceptedOf t ≡ (settingsHold (t .settings) && (grownOf (t .tree) && phaseHolds t))
+  pub accepted-is : acceptedOf t ≡ (settingsHold (t .settings) && (grownOf (t .tree) && (boxHolds t && phaseHolds t)))
   unfolding acceptedOf
   accepted-is = refl
 
-  pub accepted-all : (a b c : Bool) → a ≡ settingsHold (t .settings) → a ≡ true → b ≡ grownOf (t .tree) → b ≡ true → c ≡ phaseHolds t → c ≡ acceptedOf t
-  accepted-all a b c ea ha eb hb ec =
-      and-yes a c (settingsHold (t .settings)) (grownOf (t .tree) && phaseHolds t) ea ha (and-yes b c (grownOf (t .tree)) (phaseHolds t) eb hb ec)
+  pub accepted-all : (a b e c : Bool) → a ≡ settingsHold (t .settings) → a ≡ true → b ≡ grownOf (t .tree) → b ≡ true → e ≡ boxHolds t → e ≡ true
+      → c ≡ phaseHolds t → c ≡ acceptedOf t
+  accepted-all a b e c ea ha eb hb ee he ec =
+      and-yes a c (settingsHold (t .settings)) (grownOf (t .tree) && (boxHolds t && phaseHolds t)) ea ha
+      (and-yes b c (grownOf (t .tree)) (boxHolds t && phaseHolds t) eb hb (and-yes e c (boxHolds t) (phaseHolds t) ee he ec))
+      ∙ sym accepted-is
+
+  pub accepted-boxed : (a b e : Bool) → a ≡ settingsHold (t .settings) → a ≡ true → b ≡ grownOf (t .tree) → b ≡ true → e ≡ boxHolds t → e ≡ false
+      → false ≡ acceptedOf t
+  accepted-boxed a b e ea ha eb hb ee he =
+      and-yes a false (settingsHold (t .settings)) (grownOf (t .tree) && (boxHolds t && phaseHolds t)) ea ha
+      (and-yes b false (grownOf (t .tree)) (boxHolds t && phaseHolds t) eb hb (and-no e (boxHolds t) (phaseHolds t) ee he))
       ∙ sym accepted-is
 
   pub accepted-wild : (a b : Bool) → a ≡ settingsHold (t .settings) → a ≡ true → b ≡ grownOf (t .tree) → b ≡ false → false ≡ acceptedOf t
   accepted-wild a b ea ha eb hb =
-      and-yes a false (settingsHold (t .settings)) (grownOf (t .tree) && phaseHolds t) ea ha (and-no b (grownOf (t .tree)) (phaseHolds t) eb hb)
+      and-yes a false (settingsHold (t .settings)) (grownOf (t .tree) && (boxHolds t && phaseHolds t)) ea ha (and-no b (grownOf (t .tree)) (boxHolds t && phaseHolds t) eb hb)
       ∙ sym accepted-is
 
   pub accepted-unset : (a : Bool) → a ≡ settingsHold (t .settings) → a ≡ false → false ≡ acceptedOf t
-  accepted-unset a ea ha = and-no a (settingsHold (t .settings)) (grownOf (t .tree) && phaseHolds t) ea ha ∙ sym accepted-is
+  accepted-unset a ea ha = and-no a (settingsHold (t .settings)) (grownOf (t .tree) && (boxHolds t && phaseHolds t)) ea ha ∙ sym accepted-is
 
   -- ---- candidate k is in the list
   module _ (a : Action) (n : ℕ) (ea : a ≡ leafAction t) (en : n ≡ length (candidatesOf (t .settings) a)) where

@@ -20,23 +20,23 @@ use Rattle.trainer.specs.declared.settings.Settings.{Settings}
 use Rattle.trainer.specs.declared.Trainer.{Trainer}
 use Rattle.trainer.specs.Settings.{numbersHold, settingsHold}
 use Rattle.trainer.specs.Candidates.{candidatesOf}
-use Rattle.trainer.specs.State.{none, zeroBits, keptIn, keptHolds, untried, idle, leafAction, leafHolds, tryHolds, splitting, tuning, ending, phaseHolds, acceptedOf}
+use Rattle.trainer.specs.State.{none, zeroBits, keptIn, keptHolds, untried, idle, leafAction, leafHolds, tryHolds, splitting, tuning, ending, boxHolds, phaseHolds, acceptedOf}
 use Rattle.trainer.specs.Calls.{wantsScore}
 use Rattle.trainer.specs.Fields.{Counting, Scoring, Kept}
 use Rattle.trainer.proofs.Holds.{and-left, and-right, parts}
 use Rattle.trainer.proofs.AcceptWays.{byPhase, phase-is, accepted-is, phase-ask, phase-try}
 
 -- ---- settings
-numbers-parts : (s : Settings) → numbersHold s ≡ true → (s .«rule_splits» ≤ 64) × (s .rounds ≤ 1000)
+numbers-parts : (s : Settings) → numbersHold s ≡ true → (s .«rule_splits» ≤ 64) × (s .«optimization_rounds_per_split» ≤ 1000)
 unfolding numbersHold
 numbers-parts s h =
     let r = and-right (leb (s .«rule_splits») 64) _ h in
-    (leb-true (s .«rule_splits») 64 (and-left (leb (s .«rule_splits») 64) _ h), leb-true (s .rounds) 1000 (and-left (leb (s .rounds) 1000) _ r))
+    (leb-true (s .«rule_splits») 64 (and-left (leb (s .«rule_splits») 64) _ h), leb-true (s .«optimization_rounds_per_split») 1000 (and-left (leb (s .«optimization_rounds_per_split») 1000) _ r))
 
 pub few-splits : (s : Settings) → settingsHold s ≡ true → s .«rule_splits» ≤ 64
 few-splits s h = numbers-parts s (parts s h .0) .0
 
-pub few-rounds : (s : Settings) → settingsHold s ≡ true → s .rounds ≤ 1000
+pub few-rounds : (s : Settings) → settingsHold s ≡ true → s .«optimization_rounds_per_split» ≤ 1000
 few-rounds s h = numbers-parts s (parts s h .0) .1
 
 -- ---- stage and round, phase by phase
@@ -57,7 +57,7 @@ module _ (t : Trainer) (s : settingsHold (t .settings) ≡ true) where
   unfolding tuning
   tuning-bounded h =
       let l = leb-true (t .stage) (t .settings .«rule_splits») (and-left (leb (t .stage) (t .settings .«rule_splits»)) _ h) in
-      let r = ltb-true (t .round) (t .settings .rounds) (and-right (leb (t .stage) (t .settings .«rule_splits»)) _ h) in
+      let r = ltb-true (t .round) (t .settings .«optimization_rounds_per_split») (and-right (leb (t .stage) (t .settings .«rule_splits»)) _ h) in
       (omega (arith, few-splits (t .settings) s), omega (arith, few-rounds (t .settings) s))
 
   ending-bounded : ending t ≡ true → Bounded t
@@ -87,22 +87,28 @@ phase-cases p a b c d e h i j k l m =
 
 -- ---- an accepted trainer
 module _ (t : Trainer) (h : acceptedOf t ≡ true) where
-  all : settingsHold (t .settings) && (grownOf (t .tree) && phaseHolds t) ≡ true
+  all : settingsHold (t .settings) && (grownOf (t .tree) && (boxHolds t && phaseHolds t)) ≡ true
   all = sym (accepted-is t) ∙ h
 
   pub accepted-settings : settingsHold (t .settings) ≡ true
-  accepted-settings = and-left (settingsHold (t .settings)) (grownOf (t .tree) && phaseHolds t) all
+  accepted-settings = and-left (settingsHold (t .settings)) (grownOf (t .tree) && (boxHolds t && phaseHolds t)) all
 
-  rest : grownOf (t .tree) && phaseHolds t ≡ true
-  rest = and-right (settingsHold (t .settings)) (grownOf (t .tree) && phaseHolds t) all
+  rest : grownOf (t .tree) && (boxHolds t && phaseHolds t) ≡ true
+  rest = and-right (settingsHold (t .settings)) (grownOf (t .tree) && (boxHolds t && phaseHolds t)) all
+
+  boxed : boxHolds t && phaseHolds t ≡ true
+  boxed = and-right (grownOf (t .tree)) (boxHolds t && phaseHolds t) rest
 
   pub accepted-grown : grownOf (t .tree) ≡ true
-  accepted-grown = and-left (grownOf (t .tree)) (phaseHolds t) rest
+  accepted-grown = and-left (grownOf (t .tree)) (boxHolds t && phaseHolds t) rest
+
+  pub accepted-box : boxHolds t ≡ true
+  accepted-box = and-left (boxHolds t) (phaseHolds t) boxed
 
   pub accepted-phase :
       byPhase (t .phase) (splitting t) (tuning t && idle t) (tuning t && (leafHolds t && untried t)) (tuning t && (leafHolds t && tryHolds t)) (ending t)
       ≡ true
-  accepted-phase = sym (phase-is t) ∙ and-right (grownOf (t .tree)) (phaseHolds t) rest
+  accepted-phase = sym (phase-is t) ∙ and-right (boxHolds t) (phaseHolds t) boxed
 
   pub accepted-few : t .tree .splits ≤ 64
   accepted-few = grown-facts (t .tree) accepted-grown .few

@@ -14,6 +14,7 @@ use lib.Signed.{leZ}
 use lib.Ieee.{Float, nan, inf, fin, binary64, mul, le}
 use lib.Ieee.Scale.{finite}
 use Rattle.remy.specs.declared.action.Action.{Action}
+use Rattle.remy.specs.declared.point.Point.{Point}
 use Rattle.remy.specs.Action.{validOf, incrementHolds}
 use Rattle.floats.proofs.Order.{le-nan-r}
 use Rattle.trainer.specs.declared.settings.Settings.{Settings}
@@ -173,20 +174,21 @@ candidates-few s a =
     (mul-le-mul (kept-few _ _ _ _ (axis-floats 8 _ _ _))
     (mul-le-mul (kept-few _ _ _ _ (axis-wholes 8 _ _ _)) (kept-few _ _ _ _ (axis-floats 8 _ _ _))))
 
--- ---- the list hangs on neither the splits, the rounds, the drill nor the default action
-pub same-candidates : (s : Settings) (a : Action) (splits rounds : ℕ) (drill : Bool) (default : Action)
+-- ---- the list hangs on neither the splits, the rounds, the drill, the default action nor the upper ends
+pub same-candidates : (s : Settings) (a : Action) (splits rounds : ℕ) (drill : Bool) (default : Action) (ends : Point)
     → candidatesOf
     (record {
       «rule_splits» = splits;
-      rounds = rounds;
-      multiplier = s .multiplier;
-      drill = drill;
+      «optimization_rounds_per_split» = rounds;
+      «action_change_multiplier» = s .«action_change_multiplier»;
+      «drill_down» = drill;
       «min_action» = s .«min_action»;
       «max_action» = s .«max_action»;
-      «initial_change» = s .«initial_change»;
-      «max_change» = s .«max_change»;
+      «initial_action_change» = s .«initial_action_change»;
+      «max_action_change» = s .«max_action_change»;
       «default_action» = default;
+      ends = ends;
     }) a
     ≡ candidatesOf s a
 unfolding candidatesOf insideOf
-same-candidates s a splits rounds drill default = refl
+same-candidates s a splits rounds drill default ends = refl

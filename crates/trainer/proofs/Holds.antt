@@ -1,4 +1,4 @@
--- Which settings hold: one fact for each way through the four tests, over plain values, and what settings that hold have.
+-- Which settings hold: one fact for each way through its tests, over plain values, and what settings that hold have.
 -- Assumes nothing.
 use mathlib.Core.Path.{_≡_, refl, sym, subst}
 use mathlib.Core.Bool.{Bool, true, false, _&&_}
@@ -17,21 +17,22 @@ use mir.ValLaws.{toZ-ofZ}
 use Rattle.remy.specs.declared.action.Action.{Action}
 use Rattle.remy.specs.Action.{validOf, incrementHolds}
 use Rattle.remy.specs.Cube as cube
+use Rattle.rule_tree.specs.Grown.{endsHold}
 use Rattle.trainer.specs.declared.settings.Settings.{Settings}
 use Rattle.trainer.specs.Settings.{numbersHold, actionsHold, changesHold, axesHold, settingsHold, multiplierAxis, incrementAxis, delayAxis}
 use Rattle.trainer.specs.Axes.{WholeFits, Upto}
 
 -- ---- numbers
 module _ (s : Settings) where
-  pub numbers-all : s .«rule_splits» ≤ 64 → s .rounds ≤ 1000 → 2 ≤ s .multiplier → leb (s .multiplier) 16 ≡ numbersHold s
+  pub numbers-all : s .«rule_splits» ≤ 64 → s .«optimization_rounds_per_split» ≤ 1000 → 2 ≤ s .«action_change_multiplier» → leb (s .«action_change_multiplier») 16 ≡ numbersHold s
   unfolding numbersHold
   numbers-all h k l = rw (le-leb _ _ h, le-leb _ _ k, le-leb _ _ l)
 
-  pub numbers-low : s .«rule_splits» ≤ 64 → s .rounds ≤ 1000 → s .multiplier < 2 → leb 2 (s .multiplier) ≡ numbersHold s
+  pub numbers-low : s .«rule_splits» ≤ 64 → s .«optimization_rounds_per_split» ≤ 1000 → s .«action_change_multiplier» < 2 → leb 2 (s .«action_change_multiplier») ≡ numbersHold s
   unfolding numbersHold
   numbers-low h k l = rw (le-leb _ _ h, le-leb _ _ k, lt-leb _ _ l)
 
-  pub numbers-rounds : s .«rule_splits» ≤ 64 → 1000 < s .rounds → false ≡ numbersHold s
+  pub numbers-rounds : s .«rule_splits» ≤ 64 → 1000 < s .«optimization_rounds_per_split» → false ≡ numbersHold s
   unfolding numbersHold
   numbers-rounds h k = rw (le-leb _ _ h, lt-leb _ _ k)
 
@@ -40,17 +41,17 @@ module _ (s : Settings) where
   numbers-splits h = rw (lt-leb _ _ h)
 
   -- ---- actions
-  pub actions-all : (b : Bool) → validOf (s .«min_action») ≡ true → validOf (s .«max_action») ≡ true → validOf (s .«initial_change») ≡ true
-      → validOf (s .«max_change») ≡ true → b ≡ validOf (s .«default_action») → b ≡ actionsHold s
+  pub actions-all : (b : Bool) → validOf (s .«min_action») ≡ true → validOf (s .«max_action») ≡ true → validOf (s .«initial_action_change») ≡ true
+      → validOf (s .«max_action_change») ≡ true → b ≡ validOf (s .«default_action») → b ≡ actionsHold s
   unfolding actionsHold
   actions-all b h k l m e = rw (h, k, l, m) e
 
-  pub actions-most : validOf (s .«min_action») ≡ true → validOf (s .«max_action») ≡ true → validOf (s .«initial_change») ≡ true
-      → validOf (s .«max_change») ≡ false → false ≡ actionsHold s
+  pub actions-most : validOf (s .«min_action») ≡ true → validOf (s .«max_action») ≡ true → validOf (s .«initial_action_change») ≡ true
+      → validOf (s .«max_action_change») ≡ false → false ≡ actionsHold s
   unfolding actionsHold
   actions-most h k l m = rw (h, k, l, m)
 
-  pub actions-initial : validOf (s .«min_action») ≡ true → validOf (s .«max_action») ≡ true → validOf (s .«initial_change») ≡ false
+  pub actions-initial : validOf (s .«min_action») ≡ true → validOf (s .«max_action») ≡ true → validOf (s .«initial_action_change») ≡ false
       → false ≡ actionsHold s
   unfolding actionsHold
   actions-initial h k l = rw (h, k, l)
@@ -64,31 +65,31 @@ module _ (s : Settings) where
   actions-min h = rw h
 
   -- ---- changes: z and y are the two increments as they come back from 32 bits
-  module _ (z : ℤ) (ez : z ≡ s .«initial_change» .«window_increment») where
-    pub changes-all : (y : ℤ) → y ≡ s .«max_change» .«window_increment»
-        → lt cube.zero (s .«initial_change» .«window_multiplier») ≡ true → ltZ (pos 0) z ≡ true
-        → lt cube.zero (s .«initial_change» .«intersend_delay» .0) ≡ true → leZ z (pos 65536) ≡ true
+  module _ (z : ℤ) (ez : z ≡ s .«initial_action_change» .«window_increment») where
+    pub changes-all : (y : ℤ) → y ≡ s .«max_action_change» .«window_increment»
+        → lt cube.zero (s .«initial_action_change» .«window_multiplier») ≡ true → ltZ (pos 0) z ≡ true
+        → lt cube.zero (s .«initial_action_change» .«intersend_delay» .0) ≡ true → leZ z (pos 65536) ≡ true
         → leZ y (pos 65536) ≡ changesHold s
     unfolding changesHold
     changes-all y ey h k l m = rw (← ez, ← ey, h, k, l, m)
 
-    pub changes-large : lt cube.zero (s .«initial_change» .«window_multiplier») ≡ true → ltZ (pos 0) z ≡ true
-        → lt cube.zero (s .«initial_change» .«intersend_delay» .0) ≡ true → leZ z (pos 65536) ≡ false
+    pub changes-large : lt cube.zero (s .«initial_action_change» .«window_multiplier») ≡ true → ltZ (pos 0) z ≡ true
+        → lt cube.zero (s .«initial_action_change» .«intersend_delay» .0) ≡ true → leZ z (pos 65536) ≡ false
         → leZ z (pos 65536) ≡ changesHold s
     unfolding changesHold
     changes-large h k l m = rw (← ez, h, k, l, m)
 
-    pub changes-delay : lt cube.zero (s .«initial_change» .«window_multiplier») ≡ true → ltZ (pos 0) z ≡ true
-        → lt cube.zero (s .«initial_change» .«intersend_delay» .0) ≡ false → false ≡ changesHold s
+    pub changes-delay : lt cube.zero (s .«initial_action_change» .«window_multiplier») ≡ true → ltZ (pos 0) z ≡ true
+        → lt cube.zero (s .«initial_action_change» .«intersend_delay» .0) ≡ false → false ≡ changesHold s
     unfolding changesHold
     changes-delay h k l = rw (← ez, h, k, l)
 
-    pub changes-increment : lt cube.zero (s .«initial_change» .«window_multiplier») ≡ true → ltZ (pos 0) z ≡ false
+    pub changes-increment : lt cube.zero (s .«initial_action_change» .«window_multiplier») ≡ true → ltZ (pos 0) z ≡ false
         → false ≡ changesHold s
     unfolding changesHold
     changes-increment h k = rw (← ez, h, k)
 
-  pub changes-multiplier : lt cube.zero (s .«initial_change» .«window_multiplier») ≡ false → false ≡ changesHold s
+  pub changes-multiplier : lt cube.zero (s .«initial_action_change» .«window_multiplier») ≡ false → false ≡ changesHold s
   unfolding changesHold
   changes-multiplier h = rw h
 
@@ -106,8 +107,14 @@ module _ (s : Settings) where
   unfolding axesHold
   axes-multiplier h = rw h
 
-  -- ---- all four
-  pub hold-all : (b : Bool) → numbersHold s ≡ true → actionsHold s ≡ true → changesHold s ≡ true → b ≡ axesHold s → b ≡ settingsHold s
+  -- ---- all five
+  pub ranges-all : (b : Bool) → axesHold s ≡ true → b ≡ endsHold (s .ends) → b ≡ axesHold s && endsHold (s .ends)
+  ranges-all b h e = rw h e
+
+  pub ranges-axes : axesHold s ≡ false → false ≡ axesHold s && endsHold (s .ends)
+  ranges-axes h = rw h
+
+  pub hold-all : (b : Bool) → numbersHold s ≡ true → actionsHold s ≡ true → changesHold s ≡ true → b ≡ axesHold s && endsHold (s .ends) → b ≡ settingsHold s
   unfolding settingsHold
   hold-all b h k l e = rw (h, k, l) e
 
@@ -138,18 +145,25 @@ four a b c d h =
     let u = and-right b (c && d) t in
     (and-left a (b && (c && d)) h, and-left b (c && d) t, and-left c d u, and-right c d u)
 
+five : (a b c d e : Bool) → (a && (b && (c && (d && e)))) ≡ true → (a ≡ true) × (b ≡ true) × (c ≡ true) × (d ≡ true) × (e ≡ true)
+five a b c d e h =
+    let t = and-right a (b && (c && (d && e))) h in
+    let u = and-right b (c && (d && e)) t in
+    let v = and-right c (d && e) u in
+    (and-left a (b && (c && (d && e))) h, and-left b (c && (d && e)) t, and-left c (d && e) u, and-left d e v, and-right d e v)
+
 module _ (s : Settings) where
-  -- numbers, actions, changes, axes
-  pub parts : settingsHold s ≡ true → (numbersHold s ≡ true) × (actionsHold s ≡ true) × (changesHold s ≡ true) × (axesHold s ≡ true)
+  -- numbers, actions, changes, axes, ends
+  pub parts : settingsHold s ≡ true → (numbersHold s ≡ true) × (actionsHold s ≡ true) × (changesHold s ≡ true) × (axesHold s ≡ true) × (endsHold (s .ends) ≡ true)
   unfolding settingsHold
-  parts h = four (numbersHold s) (actionsHold s) (changesHold s) (axesHold s) h
+  parts h = five (numbersHold s) (actionsHold s) (changesHold s) (axesHold s) (endsHold (s .ends)) h
 
   ends-valid : actionsHold s ≡ true → (validOf (s .«min_action») ≡ true) × (validOf (s .«max_action») ≡ true)
   unfolding actionsHold
   ends-valid h =
       let q =
-      four (validOf (s .«min_action»)) (validOf (s .«max_action»)) (validOf (s .«initial_change»))
-      (validOf (s .«max_change») && validOf (s .«default_action»)) h in
+      four (validOf (s .«min_action»)) (validOf (s .«max_action»)) (validOf (s .«initial_action_change»))
+      (validOf (s .«max_action_change») && validOf (s .«default_action»)) h in
       (q .0, q .1)
 
   pub min-valid : settingsHold s ≡ true → validOf (s .«min_action») ≡ true
@@ -158,30 +172,30 @@ module _ (s : Settings) where
   pub max-valid : settingsHold s ≡ true → validOf (s .«max_action») ≡ true
   max-valid h = ends-valid (parts h .1) .1
 
-  numbers-factor : numbersHold s ≡ true → leb (s .multiplier) 16 ≡ true
+  numbers-factor : numbersHold s ≡ true → leb (s .«action_change_multiplier») 16 ≡ true
   unfolding numbersHold
-  numbers-factor h = four (leb (s .«rule_splits») 64) (leb (s .rounds) 1000) (leb 2 (s .multiplier)) (leb (s .multiplier) 16) h .3
+  numbers-factor h = four (leb (s .«rule_splits») 64) (leb (s .«optimization_rounds_per_split») 1000) (leb 2 (s .«action_change_multiplier»)) (leb (s .«action_change_multiplier») 16) h .3
 
   changes-parts : changesHold s ≡ true
-      → (ltZ (pos 0) (s .«initial_change» .«window_increment») ≡ true)
-      × ((leZ (s .«initial_change» .«window_increment») (pos 65536) && leZ (s .«max_change» .«window_increment») (pos 65536)) ≡ true)
+      → (ltZ (pos 0) (s .«initial_action_change» .«window_increment») ≡ true)
+      × ((leZ (s .«initial_action_change» .«window_increment») (pos 65536) && leZ (s .«max_action_change» .«window_increment») (pos 65536)) ≡ true)
   unfolding changesHold
   changes-parts h =
       let q =
-      four (lt cube.zero (s .«initial_change» .«window_multiplier»)) (ltZ (pos 0) (s .«initial_change» .«window_increment»))
-      (lt cube.zero (s .«initial_change» .«intersend_delay» .0))
-      (leZ (s .«initial_change» .«window_increment») (pos 65536) && leZ (s .«max_change» .«window_increment») (pos 65536)) h in
+      four (lt cube.zero (s .«initial_action_change» .«window_multiplier»)) (ltZ (pos 0) (s .«initial_action_change» .«window_increment»))
+      (lt cube.zero (s .«initial_action_change» .«intersend_delay» .0))
+      (leZ (s .«initial_action_change» .«window_increment») (pos 65536) && leZ (s .«max_action_change» .«window_increment») (pos 65536)) h in
       (q .1, q .3)
 
   -- the whole axis fits 32 bits
   pub whole-fits : numbersHold s ≡ true → changesHold s ≡ true
-      → WholeFits (s .multiplier) (s .«initial_change» .«window_increment») (s .«max_change» .«window_increment»)
+      → WholeFits (s .«action_change_multiplier») (s .«initial_action_change» .«window_increment») (s .«max_action_change» .«window_increment»)
   whole-fits n c =
-      let z = s .«initial_change» .«window_increment» in
-      let y = s .«max_change» .«window_increment» in
+      let z = s .«initial_action_change» .«window_increment» in
+      let y = s .«max_action_change» .«window_increment» in
       let q = changes-parts c in
       record {
-        factor = leb-true (s .multiplier) 16 (numbers-factor n);
+        factor = leb-true (s .«action_change_multiplier») 16 (numbers-factor n);
         start = upto z (q .0) (and-left (leZ z (pos 65536)) (leZ y (pos 65536)) (q .1));
         most = and-right (leZ z (pos 65536)) (leZ y (pos 65536)) (q .1);
       }

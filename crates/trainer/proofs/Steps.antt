@@ -55,33 +55,35 @@ module _ (s : Settings) (t : RuleTree) (r : Trainer) where
   unfolding beginStage
   stage-more i l e = rw (le-ltb (s .«rule_splits») i l) e
 
-  pub round-more : (i round : ℕ) → round < s .rounds → r ≡ stand s t 3 i round → r ≡ beginRound s t i round
+  pub round-more : (i round : ℕ) → round < s .«optimization_rounds_per_split» → r ≡ stand s t 3 i round → r ≡ beginRound s t i round
   unfolding beginRound
-  round-more i round l e = rw (lt-ltb round (s .rounds) l) e
+  round-more i round l e = rw (lt-ltb round (s .«optimization_rounds_per_split») l) e
 
-  pub round-over : (i round : ℕ) → s .rounds ≤ round → r ≡ beginStage s t (i + 1) → r ≡ beginRound s t i round
+  pub round-over : (i round : ℕ) → s .«optimization_rounds_per_split» ≤ round → r ≡ beginStage s t (i + 1) → r ≡ beginRound s t i round
   unfolding beginRound
-  round-over i round l e = rw (le-ltb round (s .rounds) l) e
+  round-over i round l e = rw (le-ltb round (s .«optimization_rounds_per_split») l) e
 
-pub training-begins : (s : Settings) (e : Point) (t : RuleTree) (r : Trainer) → e ≡ cube.usualEnds → t ≡ freshTree e (s .«default_action») → r ≡ beginRound s t 0 0 → r ≡ started s
-training-begins s e t r p q h = h ∙ ap (λ (x : RuleTree). beginRound s x 0 0) (q ∙ ap (λ (x : Point). freshTree x (s .«default_action»)) p)
+pub training-begins : (s : Settings) (t : RuleTree) (r : Trainer) → t ≡ freshTree (s .ends) (s .«default_action») → r ≡ beginRound s t 0 0 → r ≡ started s
+training-begins s t r q h = h ∙ ap (λ (x : RuleTree). beginRound s x 0 0) q
 
-abbrev pub settingsWith : Action → Settings
-settingsWith a =
+abbrev pub settingsWith : Action → Point → Settings
+settingsWith a e =
     record {
       «rule_splits» = 0;
-      rounds = 0;
-      multiplier = 0;
-      drill = false;
+      «optimization_rounds_per_split» = 0;
+      «action_change_multiplier» = 0;
+      «drill_down» = false;
       «min_action» = a;
       «max_action» = a;
-      «initial_change» = a;
-      «max_change» = a;
+      «initial_action_change» = a;
+      «max_action_change» = a;
       «default_action» = a;
+      ends = e;
     }
 
-pub blank-is : (a : Action) (t : RuleTree) (r : Trainer) → a ≡ noAction → t ≡ blankTree → r ≡ stand (settingsWith a) t 0 0 0 → r ≡ blankTrainer
-blank-is a t r p h k = k ∙ (λ j. stand (settingsWith (p j)) (h j) 0 0 0)
+pub blank-is : (a : Action) (e : Point) (t : RuleTree) (r : Trainer) → a ≡ noAction → e ≡ cube.pointOf cube.zero cube.zero cube.zero → t ≡ blankTree
+    → r ≡ stand (settingsWith a e) t 0 0 0 → r ≡ blankTrainer
+blank-is a e t r p q h k = k ∙ (λ j. stand (settingsWith (p j) (q j)) (h j) 0 0 0)
 
 -- ---- the most used leaf
 pub nobody-chosen : (m w : Chosen) → m ≡ w → (tagOf the-type m ≡ 1) ⊎ (tagOf the-type m ≡ 2) → 0 ≡ chosenLeaf w
@@ -129,18 +131,18 @@ pick-at xs k m n x e q l = let z : m ≡ At (length xs) (getD xs k noCandidate) 
 
 -- ---- answers with counts
 module _ (t : Trainer) (xs : List ℕ) where
-  drilled : (b : Bool) (n : ℕ) → n ≡ usedIn xs → b ≡ (t .settings .drill && leb n 1) → (t .settings .drill && leb (usedIn xs) 1) ≡ b
-  drilled b n e h = ap (λ (m : ℕ). t .settings .drill && leb m 1) (sym e) ∙ sym h
+  drilled : (b : Bool) (n : ℕ) → n ≡ usedIn xs → b ≡ (t .settings .«drill_down» && leb n 1) → (t .settings .«drill_down» && leb (usedIn xs) 1) ≡ b
+  drilled b n e h = ap (λ (m : ℕ). t .settings .«drill_down» && leb m 1) (sym e) ∙ sym h
 
   module _ (tree : RuleTree) (r : Trainer) (et : tree ≡ splitMostUsed (t .tree) xs) where
-    pub once-drill : (b : Bool) (n : ℕ) → t .tree .splits < 64 → n ≡ usedIn xs → b ≡ (t .settings .drill && leb n 1) → b ≡ true
+    pub once-drill : (b : Bool) (n : ℕ) → t .tree .splits < 64 → n ≡ usedIn xs → b ≡ (t .settings .«drill_down» && leb n 1) → b ≡ true
         → r ≡ stand (t .settings) tree 2 (t .stage) 0 → taken r ≡ phase1 t xs
     unfolding phase1
     once-drill b n l e h q er =
         rw (lt-ltb (t .tree .splits) 64 l, drilled b n e h ∙ q)
         (ap taken (er ∙ ap (λ (x : RuleTree). stand (t .settings) x 2 (t .stage) 0) et))
 
-    pub once-round : (b : Bool) (n : ℕ) → t .tree .splits < 64 → n ≡ usedIn xs → b ≡ (t .settings .drill && leb n 1) → b ≡ false
+    pub once-round : (b : Bool) (n : ℕ) → t .tree .splits < 64 → n ≡ usedIn xs → b ≡ (t .settings .«drill_down» && leb n 1) → b ≡ false
         → r ≡ beginRound (t .settings) tree (t .stage) 0 → taken r ≡ phase1 t xs
     unfolding phase1
     once-round b n l e h q er =

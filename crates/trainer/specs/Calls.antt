@@ -28,14 +28,15 @@ abbrev pub blankSettings : Settings
 blankSettings =
     record {
       «rule_splits» = 0;
-      rounds = 0;
-      multiplier = 0;
-      drill = false;
+      «optimization_rounds_per_split» = 0;
+      «action_change_multiplier» = 0;
+      «drill_down» = false;
       «min_action» = noAction;
       «max_action» = noAction;
-      «initial_change» = noAction;
-      «max_change» = noAction;
+      «initial_action_change» = noAction;
+      «max_action_change» = noAction;
       «default_action» = noAction;
+      ends = cube.pointOf cube.zero cube.zero cube.zero;
     }
 
 abbrev pub blankTrainer : Trainer
@@ -43,7 +44,7 @@ blankTrainer = stand blankSettings blankTree 0 0 0
 
 -- "Start: default leaf, then begin stage 0"
 abbrev pub started : Settings → Trainer
-started s = beginRound s (freshTree cube.usualEnds (s .«default_action»)) 0 0
+started s = beginRound s (freshTree (s .ends) (s .«default_action»)) 0 0
 
 abbrev pub startOrder : Settings → List Test
 startOrder s = test (settingsHold s) badSettings ∷ []

@@ -33,7 +33,7 @@ beginStage s t i = cond (ltb (s .«rule_splits») i) (stand s t 6 i 0) (stand s 
 -- "Begin round: phase 3 if round < rounds, else begin stage i+1"
 unfoldable pub beginRound : Settings → RuleTree → ℕ → ℕ → Trainer
 unfolding beginStage
-beginRound s t i round = cond (ltb round (s .rounds)) (stand s t 3 i round) (beginStage s t (i + 1))
+beginRound s t i round = cond (ltb round (s .«optimization_rounds_per_split»)) (stand s t 3 i round) (beginStage s t (i + 1))
 
 -- the most used leaf, of all or of the unmarked
 abbrev pub mostUsedIn : RuleTree → List ℕ → Bool → Chosen
@@ -54,7 +54,7 @@ unfolding beginRound chosenLeaf
 phase1 t xs =
     let tree = splitMostUsed (t .tree) xs in
     cond (ltb (t .tree .splits) 64)
-    (taken (cond (t .settings .drill && leb (usedIn xs) 1) (stand (t .settings) tree 2 (t .stage) 0) (beginRound (t .settings) tree (t .stage) 0)))
+    (taken (cond (t .settings .«drill_down» && leb (usedIn xs) 1) (stand (t .settings) tree 2 (t .stage) 0) (beginRound (t .settings) tree (t .stage) 0)))
     (refuse fullTree t)
 
 -- "2, counts: more than one above 0, begin round; else split the most used, stay"; 20

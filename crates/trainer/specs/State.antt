@@ -105,7 +105,7 @@ splitting t = leb 1 (t .stage) && (leb (t .stage) (t .settings .«rule_splits»)
 
 -- "stage <= rule_splits, round < rounds in 3 to 5"
 unfoldable pub tuning : Trainer → Bool
-tuning t = leb (t .stage) (t .settings .«rule_splits») && ltb (t .round) (t .settings .rounds)
+tuning t = leb (t .stage) (t .settings .«rule_splits») && ltb (t .round) (t .settings .«optimization_rounds_per_split»)
 
 -- "stage rule_splits+1, round 0 in 6, 7"
 unfoldable pub ending : Trainer → Bool
@@ -121,6 +121,10 @@ phaseHolds t =
     (cond (eqb (t .phase) 5) (tuning t && (leafHolds t && tryHolds t))
     (cond (eqb (t .phase) 6 || eqb (t .phase) 7) (ending t) false))))
 
+-- the tree has the upper ends of the settings
+unfoldable pub boxHolds : Trainer → Bool
+boxHolds t = cube.pointEqual (t .tree .ends) (t .settings .ends)
+
 unfoldable pub acceptedOf : Trainer → Bool
-unfolding phaseHolds
-acceptedOf t = settingsHold (t .settings) && (grownOf (t .tree) && phaseHolds t)
+unfolding boxHolds phaseHolds
+acceptedOf t = settingsHold (t .settings) && (grownOf (t .tree) && (boxHolds t && phaseHolds t))

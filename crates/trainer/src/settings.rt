@@ -3,17 +3,20 @@ ghost use mathlib.Core.Path.{_≡_};
 ghost use Rattle.trainer.specs.Settings.{settingsHold};
 use crate::inner::axes;
 use remy::action::Action;
+use remy::point::Point;
 
 pub struct Settings {
     pub rule_splits: u32,
-    pub rounds: u32,
-    pub multiplier: u32,
-    pub drill: bool,
+    pub optimization_rounds_per_split: u32,
+    pub action_change_multiplier: u32,
+    pub drill_down: bool,
     pub min_action: Action,
     pub max_action: Action,
-    pub initial_change: Action,
-    pub max_change: Action,
+    pub initial_action_change: Action,
+    pub max_action_change: Action,
     pub default_action: Action,
+    // The upper ends of the root box.
+    pub ends: Point,
 }
 
 impl Settings {
@@ -24,7 +27,7 @@ impl Settings {
         if axes::numbers_hold(self) {
             if axes::actions_hold(self) {
                 if axes::changes_hold(self) {
-                    return axes::axes_hold(self);
+                    return axes::ranges_hold(self);
                 }
             }
         }

@@ -32,11 +32,16 @@ fn show(r: Looked) {
     say(b"\n");
 }
 
+// One leaf with these upper ends: 1 node.
+fn boxed(ends: Point) -> RuleTree {
+    let a = Action::new(1.0, 7, 0.0);
+    let made = RuleTree::new(ends, a);
+    made.tree
+}
+
 // One leaf: 1 node.
 fn fresh() -> RuleTree {
-    let a = Action::new(1.0, 7, 0.0);
-    let made = RuleTree::new(a);
-    made.tree
+    boxed(Point::usual_ends())
 }
 
 // The root split: 9 nodes.
@@ -73,7 +78,8 @@ fn points(tree: RuleTree, leaf: u16, action: Action) {
 fn part(nodes: [Node; 513], n: usize, leaf: u16, action: Action) {
     number(n as u64);
     say(b" nodes: ");
-    show(rule_tree_view::looked_part(nodes, n, leaf, action, Point::new(0.0, 0.0, 0.0)));
+    let ends = Point::usual_ends();
+    show(rule_tree_view::looked_part(nodes, n, ends, leaf, action, Point::new(0.0, 0.0, 0.0)));
 }
 
 fn lengths(nodes: [Node; 513], leaf: u16, action: Action) {
@@ -115,6 +121,46 @@ fn payloads(nodes: [Node; 513], action: Action) {
     part(beyond, 9, 1, action);
 }
 
+// One split of a box with these upper ends: a point of leaf 1, the middle, which is in leaf 8, and a point on an upper face.
+fn other_ends(ends: Point, within: Point, middle: Point, face: Point, action: Action) {
+    let t = boxed(ends);
+    let s = t.split(0);
+    let tree = s.tree;
+    say(b"in leaf 1: ");
+    look(tree, 1, action, within);
+    say(b"at the middle: ");
+    look(tree, 1, action, middle);
+    say(b"at the middle, in leaf 8: ");
+    look(tree, 8, action, middle);
+    say(b"on an upper face: ");
+    look(tree, 1, action, face);
+}
+
+// The point (0, 0, 0) through the 9 nodes of one split with these upper ends beside them.
+fn beside(nodes: [Node; 513], ends: Point, leaf: u16, action: Action) {
+    show(rule_tree_view::looked_part(nodes, 9, ends, leaf, action, Point::new(0.0, 0.0, 0.0)));
+}
+
+fn refused_ends(nodes: [Node; 513], action: Action) {
+    say(b"1, 1, 1: ");
+    beside(nodes, Point::new(1.0, 1.0, 1.0), 1, action);
+    say(b"1000000, 1000000, 1000000: ");
+    beside(
+        nodes,
+        Point::new(1000000.0, 1000000.0, 1000000.0),
+        1,
+        action,
+    );
+    say(b"0.5, 1, 1: ");
+    beside(nodes, Point::new(0.5, 1.0, 1.0), 1, action);
+    say(b"1, 1000001, 1: ");
+    beside(nodes, Point::new(1.0, 1000001.0, 1.0), 1, action);
+    say(b"1, 1, NaN: ");
+    beside(nodes, Point::new(1.0, 1.0, 0.0 / 0.0), 1, action);
+    say(b"0.5, 1, 1, in leaf 0, which is a parent: ");
+    beside(nodes, Point::new(0.5, 1.0, 1.0), 0, action);
+}
+
 fn main() {
     let nine = Action::new(1.0, 9, 0.0);
     let leaf = fresh();
@@ -137,4 +183,22 @@ fn main() {
     let nodes = one.nodes;
     lengths(nodes, 1, nine);
     payloads(nodes, nine);
+    say(b"-- one split, action 9, ends 1, 1, 1\n");
+    other_ends(
+        Point::new(1.0, 1.0, 1.0),
+        Point::new(0.25, 0.25, 0.25),
+        Point::new(0.5, 0.5, 0.5),
+        Point::new(0.0, 1.0, 0.0),
+        nine,
+    );
+    say(b"-- one split, action 9, ends 3.3, 7, 1000000\n");
+    other_ends(
+        Point::new(3.3, 7.0, 1000000.0),
+        Point::new(1.6, 3.4, 499999.0),
+        Point::new(1.65, 3.5, 500000.0),
+        Point::new(3.3, 0.0, 0.0),
+        nine,
+    );
+    say(b"-- one split's nodes with ends beside them\n");
+    refused_ends(nodes, nine);
 }

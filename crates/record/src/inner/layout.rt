@@ -5,7 +5,7 @@ ghost use Rattle.record.specs.Layout.{layoutOf, knownOf, carries, givenA
 use remy::action::Action;
 use trainer::settings::Settings;
 
-// Every node's action and mark is written, or the leaves' alone; the tree's upper ends follow the settings, or do not.
+// Every node's action and mark is written, or the leaves' alone; the upper ends follow the settings' actions, or do not.
 pub struct Layout {
     pub parents: bool,
     pub ends: bool,
@@ -25,7 +25,7 @@ pub fn known(v: u8) -> bool
     if v < 1 {
         return false;
     }
-    v <= 2
+    v <= 3
 }
 
 // A node with the first child c is written.

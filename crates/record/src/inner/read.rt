@@ -22,29 +22,31 @@ use wire::inner::read::point_at;
 use wire::inner::read::short_at;
 use wire::inner::read::word_at;
 
-pub fn settings_at(bytes: &[u8], at: usize) -> Settings
+pub fn settings_at(bytes: &[u8], l: Layout, at: usize) -> Settings
     requires { ⌜ at ≤ 60000 ⌝ }
-    ensures { λ r. ⌜ r ≡ settingsAt (now (bytes .entry)) at ⌝ }
+    ensures { λ r. ⌜ r ≡ settingsAt l (now (bytes .entry)) at ⌝ }
 {
     let rule_splits = word_at(bytes, at);
-    let rounds = word_at(bytes, at + 4);
-    let multiplier = word_at(bytes, at + 8);
-    let drill = flag_at(bytes, at + 12);
+    let optimization_rounds_per_split = word_at(bytes, at + 4);
+    let action_change_multiplier = word_at(bytes, at + 8);
+    let drill_down = flag_at(bytes, at + 12);
     let min_action = action_at(bytes, at + 13);
     let max_action = action_at(bytes, at + 33);
-    let initial_change = action_at(bytes, at + 53);
-    let max_change = action_at(bytes, at + 73);
+    let initial_action_change = action_at(bytes, at + 53);
+    let max_action_change = action_at(bytes, at + 73);
     let default_action = action_at(bytes, at + 93);
+    let ends = ends_at(bytes, l, at + 113);
     Settings {
         rule_splits,
-        rounds,
-        multiplier,
-        drill,
+        optimization_rounds_per_split,
+        action_change_multiplier,
+        drill_down,
         min_action,
         max_action,
-        initial_change,
-        max_change,
+        initial_action_change,
+        max_action_change,
         default_action,
+        ends,
     }
 }
 
@@ -146,7 +148,7 @@ pub fn trainer_at(bytes: &[u8], l: Layout, s: u16) -> Trainer
     ensures { λ r. ⌜ r ≡ trainerAt l (now (bytes .entry)) s ⌝ }
 {
     let at = layout::state_place(l, s);
-    let settings = settings_at(bytes, 5);
+    let settings = settings_at(bytes, l, 5);
     let a = layout::given(settings);
     let tree = tree_at(bytes, l, a, s);
     let phase = byte_at(bytes, at);

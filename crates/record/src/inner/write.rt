@@ -29,11 +29,11 @@ fn put_numbers(buf: &mut [u8], at: usize, s: Settings)
     requires { ⌜ at + 13 ≤ length (now buf) ⌝ }
     ensures { λ _. ⌜ now (buf .exit) ≡ sets (now (buf .entry)) at (numberFields s) ⌝ }
 {
-    let drill = flag_of(s.drill);
+    let drill_down = flag_of(s.drill_down);
     put(buf, at, 4, s.rule_splits as u64);
-    put(buf, at + 4, 4, s.rounds as u64);
-    put(buf, at + 8, 4, s.multiplier as u64);
-    buf[at + 12] = drill;
+    put(buf, at + 4, 4, s.optimization_rounds_per_split as u64);
+    put(buf, at + 8, 4, s.action_change_multiplier as u64);
+    buf[at + 12] = drill_down;
 }
 
 // The settings' five actions.
@@ -43,8 +43,8 @@ fn put_actions(buf: &mut [u8], at: usize, s: Settings)
 {
     let min = s.min_action;
     let max = s.max_action;
-    let initial = s.initial_change;
-    let most = s.max_change;
+    let initial = s.initial_action_change;
+    let most = s.max_action_change;
     let default = s.default_action;
     put_action(buf, at, min);
     put_action(buf, at + 20, max);
@@ -84,12 +84,12 @@ fn put_splits(buf: &mut [u8], at: usize, t: RuleTree)
 }
 
 // The upper ends, where the layout has them. The place after them.
-fn put_ends(buf: &mut [u8], at: usize, l: Layout, t: RuleTree) -> usize
+fn put_ends(buf: &mut [u8], at: usize, l: Layout, s: Settings) -> usize
     requires { ⌜ at + endsSize l ≤ length (now buf) ⌝ }
-    ensures { λ r. ⌜ (r ≡ at + endsSize l) × (now (buf .exit) ≡ sets (now (buf .entry)) at (endBytes l t)) ⌝ }
+    ensures { λ r. ⌜ (r ≡ at + endsSize l) × (now (buf .exit) ≡ sets (now (buf .entry)) at (endBytes l s)) ⌝ }
 {
     if l.ends {
-        let ends = t.ends;
+        let ends = s.ends;
         put_point(buf, at, ends);
         return at + 24;
     }
@@ -171,7 +171,7 @@ pub fn write(buf: &mut [u8], l: Layout, version: u8, t: Trainer)
     put(buf, 0, 4, (size - 4) as u64);
     buf[4] = version;
     put_settings(buf, 5, s);
-    let after = put_ends(buf, 118, l, tree);
+    let after = put_ends(buf, 118, l, s);
     put_splits(buf, after, tree);
     let at = put_nodes(buf, after + 2 + 2 * (splits as usize), l, tree);
     put_state(buf, at, t);

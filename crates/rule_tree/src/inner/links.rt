@@ -146,11 +146,11 @@ fn payloads_hold(t: RuleTree) -> bool
     true
 }
 
-// The box is the usual one.
+// The upper ends are ones that a box may have.
 pub fn ends_hold(e: Point) -> bool
     ensures { λ r. ⌜ r ≡ endsHold e ⌝ }
 {
-    e.equals(Point::usual_ends())
+    e.ends_admitted()
 }
 
 pub fn grown(t: RuleTree) -> bool

@@ -6,12 +6,11 @@ use borrow.Author.Needs.{needs}
 use lib.ListN.{length, length-map}
 use Rattle.remy.specs.declared.action.Action.{Action}
 use Rattle.remy.specs.declared.point.Point.{Point}
-use Rattle.remy.specs.Cube.{usualEnds}
 use Rattle.rule_tree.specs.declared.RuleTree.{RuleTree}
 use Rattle.rule_tree.specs.declared.Looked.the-variants.{Refused}
 use Rattle.rule_tree.specs.Grown.{grownOf}
 use Rattle.rule_tree.specs.Calls.{replacedOf}
-use Rattle.rule_tree.proofs.Links.{grown-ends}
+use Rattle.rule_tree.proofs.Plain.{PointFits}
 use Rattle.rule_tree_view.specs.View.{replacedIn}
 use Rattle.rule_tree_view.proofs.Viewed.{view-grown}
 use Rattle.rule_tree_view.proofs.looked_through.Statement.{statement}
@@ -24,8 +23,8 @@ not-grown t leaf a p g = rw g
 full : (c : tie.Start) → length (c .args .tree .nodes) ≡ 513
 full c = sym (length-map (c .args .tree .nodes) _) ∙ c .good .0 .1 .1 .0 .1 .0 .1
 
-usual : (c : tie.Start) → grownOf (c .args .tree) ≡ true → c .args .tree .ends ≡ usualEnds
-usual c g = grown-ends (c .args .tree) g (record { acks = search needs; sends = search needs; ratios = search needs })
+ends-fit : (c : tie.Start) → PointFits (c .args .tree .ends)
+ends-fit c = record { acks = search needs; sends = search needs; ratios = search needs }
 
 grown-requires : tie.Need-grown-requires
 grown-requires c κs = search needs
@@ -46,7 +45,7 @@ returns : tie.Need-returns
 returns c =
     let s = c .before .before .before .before .before in
     let g : grownOf (s .args .tree) ≡ true = sym (c .before .before .before .before .grown .ensures) ∙ c .before .before .before .if1 .taken in
-    c .looked-part .ensures ∙ view-grown (s .args .tree) (full s) g (usual s g) (s .args .leaf) (s .args .action) (s .args .p)
+    c .looked-part .ensures ∙ view-grown (s .args .tree) (full s) g (ends-fit s) (s .args .leaf) (s .args .action) (s .args .p)
 
 returns-2 : tie.Need-returns-2
 returns-2 c = not-grown _ _ _ _ (sym (c .before .grown .ensures) ∙ c .if1 .left)

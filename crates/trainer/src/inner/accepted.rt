@@ -5,7 +5,7 @@ ghost use Prim.Native.Nat.{_<_, _≤_};
 ghost use Rattle.rule_tree.specs.Grown.{grownOf};
 ghost use Rattle.rule_tree.specs.Calls.{leafIn};
 ghost use Rattle.trainer.specs.Settings.{settingsHold};
-ghost use Rattle.trainer.specs.State.{zeroBits, untriedIn, keptIn, untried, leafHolds, tryHolds, tuning, phaseHolds, acceptedOf};
+ghost use Rattle.trainer.specs.State.{zeroBits, untriedIn, keptIn, untried, leafHolds, tryHolds, tuning, boxHolds, phaseHolds, acceptedOf};
 ghost use Rattle.trainer.specs.Fields.{idleIn, splittingIn, tuningIn, endingIn};
 use crate::Trainer;
 use crate::inner::axes;
@@ -106,7 +106,12 @@ fn tunes_leaf(t: Trainer) -> bool
     ensures { λ r. ⌜ r ≡ (tuning t && leafHolds t) ⌝ }
 {
     let s = t.settings;
-    if tunes_now(t.stage, s.rule_splits, t.round, s.rounds) {
+    if tunes_now(
+        t.stage,
+        s.rule_splits,
+        t.round,
+        s.optimization_rounds_per_split,
+    ) {
         let tree = t.tree;
         return leaf::unmarked_leaf(tree, t.leaf);
     }
@@ -158,12 +163,27 @@ fn phase_holds(t: Trainer) -> bool
     let waits = at_no_leaf(t.leaf, t.best, t.k, t.kept, t.kept_score);
     match phase {
         1 | 2 => splits_now(t.stage, s.rule_splits, t.round, waits),
-        3 => chooses_now(t.stage, s.rule_splits, t.round, s.rounds, waits),
+        3 => chooses_now(
+            t.stage,
+            s.rule_splits,
+            t.round,
+            s.optimization_rounds_per_split,
+            waits,
+        ),
         4 => asks_leaf(t),
         5 => tries_leaf(t),
         6 | 7 => ends_now(t.stage, s.rule_splits, t.round, waits),
         _ => false,
     }
+}
+
+// The tree has the upper ends of the settings.
+fn box_holds(t: Trainer) -> bool
+    ensures { λ r. ⌜ r ≡ boxHolds t ⌝ }
+{
+    let e = t.tree.ends;
+    let u = t.settings.ends;
+    e.equals(u)
 }
 
 pub fn accepted(t: Trainer) -> bool
@@ -173,7 +193,9 @@ pub fn accepted(t: Trainer) -> bool
     if s.hold() {
         let tree = t.tree;
         if rule_tree::inner::links::grown(tree) {
-            return phase_holds(t);
+            if box_holds(t) {
+                return phase_holds(t);
+            }
         }
     }
     false

@@ -1,6 +1,6 @@
 // The axes of a change, and the list of candidates as the product of what each axis keeps.
 ghost use mathlib.Core.Path.{_≡_};
-ghost use mathlib.Core.Bool.{true};
+ghost use mathlib.Core.Bool.{true, _&&_};
 ghost use mathlib.Core.List.{_∷_, [], _++_};
 ghost use Prim.Native.Nat.{_<_, _≤_, _+_};
 ghost use lib.Dec.{leb};
@@ -9,6 +9,7 @@ ghost use lib.ListN.{length, getD, take};
 ghost use lib.Ieee.{nan};
 ghost use lib.Signed.{mag};
 ghost use Rattle.remy.specs.Action.{validOf};
+ghost use Rattle.rule_tree.specs.Grown.{endsHold};
 ghost use Rattle.trainer.specs.Settings.{floatAxis, wholeAxis, numbersHold, actionsHold, changesHold, axesHold, settingsHold};
 ghost use Rattle.trainer.specs.Candidates.{candidatesOf, pickOf, filter};
 ghost use Rattle.trainer.specs.Axes.{floatInside, wholeInside, keptFloats, keptWholes, HoldsFloats, HoldsWholes, WholeFits, multiplierSums, incrementSums, delaySums};
@@ -31,8 +32,8 @@ pub fn numbers_hold(s: Settings) -> bool
     ensures { λ r. ⌜ r ≡ numbersHold s ⌝ }
 {
     if s.rule_splits <= 64 {
-        if s.rounds <= 1000 {
-            return 2 <= s.multiplier && s.multiplier <= 16;
+        if s.optimization_rounds_per_split <= 1000 {
+            return 2 <= s.action_change_multiplier && s.action_change_multiplier <= 16;
         }
     }
     false
@@ -43,8 +44,8 @@ pub fn actions_hold(s: Settings) -> bool
 {
     let min = s.min_action;
     let max = s.max_action;
-    let initial = s.initial_change;
-    let most = s.max_change;
+    let initial = s.initial_action_change;
+    let most = s.max_action_change;
     let default = s.default_action;
     if min.valid() {
         if max.valid() {
@@ -61,8 +62,8 @@ pub fn actions_hold(s: Settings) -> bool
 pub fn changes_hold(s: Settings) -> bool
     ensures { λ r. ⌜ r ≡ changesHold s ⌝ }
 {
-    let initial = s.initial_change;
-    let most = s.max_change;
+    let initial = s.initial_action_change;
+    let most = s.max_action_change;
     if 0.0 < initial.window_multiplier {
         if 0 < initial.window_increment {
             if 0.0 < initial.intersend_delay.0 {
@@ -108,21 +109,33 @@ fn wholes_end(times: u32, first: i32, max: i32) -> bool
     !(n <= max)
 }
 
-pub fn axes_hold(s: Settings) -> bool
+fn axes_hold(s: Settings) -> bool
     requires { ⌜ (numbersHold s ≡ true) × (changesHold s ≡ true) ⌝ }
     ensures { λ r. ⌜ r ≡ axesHold s ⌝ }
 {
-    let initial = s.initial_change;
-    let most = s.max_change;
-    let times = s.multiplier as f64;
+    let initial = s.initial_action_change;
+    let most = s.max_action_change;
+    let times = s.action_change_multiplier as f64;
     if floats_end(times, initial.window_multiplier, most.window_multiplier) {
         if wholes_end(
-            s.multiplier,
+            s.action_change_multiplier,
             initial.window_increment,
             most.window_increment,
         ) {
             return floats_end(times, initial.intersend_delay.0, most.intersend_delay.0);
         }
+    }
+    false
+}
+
+// The axes end, and the upper ends are ones that a box may have.
+pub fn ranges_hold(s: Settings) -> bool
+    requires { ⌜ (numbersHold s ≡ true) × (changesHold s ≡ true) ⌝ }
+    ensures { λ r. ⌜ r ≡ (axesHold s && endsHold (s .ends)) ⌝ }
+{
+    if axes_hold(s) {
+        let e = s.ends;
+        return rule_tree::inner::links::ends_hold(e);
     }
     false
 }
@@ -213,12 +226,12 @@ fn kept_wholes(times: u32, first: i32, max: i32, at: i32, low: i32, high: i32) -
 pub fn multiplier_sums(s: Settings, a: Action) -> FloatSums
     ensures { λ r. ⌜ HoldsFloats r (multiplierSums s a) ⌝ }
 {
-    let initial = s.initial_change;
-    let most = s.max_change;
+    let initial = s.initial_action_change;
+    let most = s.max_action_change;
     let min = s.min_action;
     let max = s.max_action;
     kept_floats(
-        s.multiplier as f64,
+        s.action_change_multiplier as f64,
         initial.window_multiplier,
         most.window_multiplier,
         a.window_multiplier,
@@ -231,12 +244,12 @@ pub fn increment_sums(s: Settings, a: Action) -> WholeSums
     requires { ⌜ (settingsHold s ≡ true) × (validOf a ≡ true) ⌝ }
     ensures { λ r. ⌜ HoldsWholes r (incrementSums s a) ⌝ }
 {
-    let initial = s.initial_change;
-    let most = s.max_change;
+    let initial = s.initial_action_change;
+    let most = s.max_action_change;
     let min = s.min_action;
     let max = s.max_action;
     kept_wholes(
-        s.multiplier,
+        s.action_change_multiplier,
         initial.window_increment,
         most.window_increment,
         a.window_increment,
@@ -248,12 +261,12 @@ pub fn increment_sums(s: Settings, a: Action) -> WholeSums
 pub fn delay_sums(s: Settings, a: Action) -> FloatSums
     ensures { λ r. ⌜ HoldsFloats r (delaySums s a) ⌝ }
 {
-    let initial = s.initial_change;
-    let most = s.max_change;
+    let initial = s.initial_action_change;
+    let most = s.max_action_change;
     let min = s.min_action;
     let max = s.max_action;
     kept_floats(
-        s.multiplier as f64,
+        s.action_change_multiplier as f64,
         initial.intersend_delay.0,
         most.intersend_delay.0,
         a.intersend_delay.0,

@@ -87,7 +87,7 @@ pub fn begin_round(s: Settings, t: RuleTree, i: u32, round: u32) -> Trainer
     requires { ⌜ i < 4294967295 ⌝ }
     ensures { λ r. ⌜ r ≡ beginRound s t i round ⌝ }
 {
-    if round < s.rounds {
+    if round < s.optimization_rounds_per_split {
         return stand_at(s, t, 3, i, round);
     }
     begin_stage(s, t, i + 1)
@@ -97,7 +97,8 @@ pub fn begin_training(s: Settings) -> Trainer
     ensures { λ r. ⌜ r ≡ started s ⌝ }
 {
     let a = s.default_action;
-    let t = rule_tree::inner::change::fresh(Point::usual_ends(), a);
+    let e = s.ends;
+    let t = rule_tree::inner::change::fresh(e, a);
     begin_round(s, t, 0, 0)
 }
 
@@ -108,14 +109,15 @@ pub fn blank() -> Trainer
     let a = Action::new(0.0, 0, 0.0);
     let s = Settings {
         rule_splits: 0,
-        rounds: 0,
-        multiplier: 0,
-        drill: false,
+        optimization_rounds_per_split: 0,
+        action_change_multiplier: 0,
+        drill_down: false,
         min_action: a,
         max_action: a,
-        initial_change: a,
-        max_change: a,
+        initial_action_change: a,
+        max_action_change: a,
         default_action: a,
+        ends: Point::new(0.0, 0.0, 0.0),
     };
     let t = rule_tree::inner::change::blank();
     stand_at(s, t, 0, 0, 0)

@@ -53,7 +53,7 @@ fn split_once(t: Trainer, xs: &[u64]) -> Answered
     let start = t.tree;
     if start.splits < 64 {
         let tree = split_most_used(start, xs);
-        if drills(s.drill, counts::used(xs)) {
+        if drills(s.drill_down, counts::used(xs)) {
             let trainer = begin::stand_at(s, tree, 2, t.stage, 0);
             return Answered {
                 refused: 0,

@@ -22,6 +22,7 @@ use types.Kit.{Given, Item, ‵, raw, _⊛_, given, ⋆, some, later, _$_, _∵_
 use types.Part.{whole, sub, look-in}
 use types.Run.{look, init, forget, stop, fld, from, load, of-opd, and-then, no-more, assigns, land, returns, enter, alloc1, alloc0, params1, pass1, pass0, free1, free0}
 use sound.WpLaws.{FmC, fmOf, WpFn-mono}
+use denote.Floats.{passes}
 use denote.RattleType.{RattleType, owns}
 use denote.Laws.{Is, shows}
 use denote.Plain.{uint-makes, uint-lawful}
@@ -43,6 +44,8 @@ use denote.Triple.Table.{entered, cited}
 use denote.Triple.Walked.{says, Stays, stay-none, walkOf, goes-none, Walks, ends-at, walked, walk-meets}
 use denote.Exit.{yes}
 use denote.Triple.Clauses.{ensured, lasts}
+use Rattle.quantities.proofs.TimeSpan as S
+use Rattle.quantities.proofs.TimeSpan.Laws as S′
 use Rattle.remy.specs.declared.point.Point.{Point}
 use Rattle.remy.proofs.action.Action as A₁
 use Rattle.remy.proofs.action.Action.Laws as A′
@@ -57,6 +60,7 @@ use Rattle.rule_tree.proofs.Looked.Laws as K′
 use Rattle.rule_tree_view.specs.declared.AugmentedView.{AugmentedView}
 use Rattle.rule_tree_view.specs.declared.Told.{Told}
 use Rattle.rule_tree_view.specs.View.{countOf, linksOf, toldOf, placeOf, answerOf, viewOf}
+use Rattle.rule_tree.proofs.Plain.{PointFits}
 use Rattle.rule_tree_view.proofs.LinkArray.{Links, lawful}
 use Rattle.rule_tree_view.proofs.Gathering.{count-fits}
 use Rattle.rule_tree_view.proofs.Viewed.{answer-viewed}
@@ -84,6 +88,16 @@ use Rattle.rule_tree_view.proofs.AugmentedView.action.Key.{name as #act
 use Rattle.rule_tree_view.proofs.AugmentedView.action as action
 use Rattle.rule_tree_view.proofs.AugmentedView.action.Statement as stated
 use Rattle.rule_tree_view.proofs.AugmentedView.action.Code as code
+
+-- the floats of a point that a program holds fit
+point-fits : (e : Point) → Is P.the-row e (P′.lowered e ∷ []) → PointFits e
+point-fits e is =
+    let has = LL.owed P.the-type P′.the-laws e _ is in
+    record {
+      acks = passes _ (LL.owed S.the-type S′.the-laws (e .«ack_ewma») _ (has .0) .0 .1);
+      sends = passes _ (LL.owed S.the-type S′.the-laws (e .«send_ewma») _ (has .1 .0) .0 .1);
+      ratios = passes _ (has .1 .1 .0 .1);
+    }
 
 -- the struct's type, over the signature's lifetimes
 abbrev B : Lfts 1 → RattleType
@@ -116,9 +130,12 @@ module _ {M : Type 1} (𝓤 : URA M) (H : Heap 𝓤) (A : Atoms 𝓤) (W : Given
   abbrev n : ℕ
   n = length ys
 
-  -- the machine values of nodes, of action and of p
+  -- the machine values of nodes, of ends, of action and of p
   abbrev v : Val
   v = sliceVal (d .nodes .ptr) n
+
+  abbrev ev : Val
+  ev = P′.lowered (d .ends)
 
   abbrev w : Val
   w = A′.lowered (d .action)
@@ -128,13 +145,13 @@ module _ {M : Type 1} (𝓤 : URA M) (H : Heap 𝓤) (A : Atoms 𝓤) (W : Given
 
   -- what is told by the links cs, and the answer to it
   abbrev told : List ℕ → Told
-  told cs = toldOf n cs (d .leaf) (d .action) p
+  told cs = toldOf n cs (d .ends) (d .leaf) (d .action) p
 
   abbrev read : Told → Looked
   read t = answerOf t (getD ys (placeOf t) blankNode)
 
   abbrev found : Looked
-  found = viewOf ys (d .leaf) (d .action) p
+  found = viewOf ys (d .ends) (d .leaf) (d .action) p
 
   abbrev at : Vals action.signature (κ, tt)
   at = (mach ∷ [], (pv ∷ [], tt))
@@ -158,7 +175,7 @@ module _ {M : Type 1} (𝓤 : URA M) (H : Heap 𝓤) (A : Atoms 𝓤) (W : Given
   L = T′.the-laws (namedLft 1 0 tt (κ, tt))
 
   abbrev vd : Values (D .parts)
-  vd = (d .nodes, (d .leaf, (d .action, tt)))
+  vd = (d .nodes, (d .ends, (d .leaf, (d .action, tt))))
 
   -- what the struct owns gives what its nodes own, and is kept
   apart : ent 𝓤 (sem 𝓤 H A Own) (sep 𝓤 (sem 𝓤 H A Nodes) (sem 𝓤 H A Own))
@@ -192,17 +209,18 @@ module _ {M : Type 1} (𝓤 : URA M) (H : Heap 𝓤) (A : Atoms 𝓤) (W : Given
 
   -- the call of `tell`, on the links cs
   abbrev to-tell : List ℕ → Val → Tell 𝓤 H A mem run .Ghost
-  to-tell cs u = ((tt, tt, tt, (n, (cs, (d .leaf, (d .action, (p, tt))))), (vint w64 n ∷ [], (u ∷ [], (vint w16 (d .leaf) ∷ [], (w ∷ [], (pv ∷ [], tt)))))), tt)
+  to-tell cs u = ((tt, tt, tt, (n, (cs, (d .ends, (d .leaf, (d .action, (p, tt)))))), (vint w64 n ∷ [], (u ∷ [], (ev ∷ [], (vint w16 (d .leaf) ∷ [], (w ∷ [], (pv ∷ [], tt))))))), tt)
 
-  goes-tell : n < 2 ^ 64 → d .leaf < 2 ^ 16 → Is A₁.the-row (d .action) (w ∷ []) → (cs : List ℕ) (u : Val) → ent 𝓤 (sem 𝓤 H A (Links .own cs (u ∷ []))) (Tell 𝓤 H A mem run .pre (to-tell cs u))
-  goes-tell gn gl ga cs u =
+  goes-tell : n < 2 ^ 64 → Is P.the-row (d .ends) (ev ∷ []) → d .leaf < 2 ^ 16 → Is A₁.the-row (d .action) (w ∷ []) → (cs : List ℕ) (u : Val) → ent 𝓤 (sem 𝓤 H A (Links .own cs (u ∷ []))) (Tell 𝓤 H A mem run .pre (to-tell cs u))
+  goes-tell gn ge gl ga cs u =
       qed W (‵ (Links .own cs (u ∷ [])) ∷ []) ∵ nothing ! $ owned ! P.the-row (Is P.the-row) (LL.makes P.the-type P′.the-plain 𝓤 H A) p _ is-p $ fjoin ! $
       owned ! A₁.the-row (Is A₁.the-row) (LL.makes A₁.the-type A′.the-plain 𝓤 H A) (d .action) _ ga $ fjoin ! $
-      owned ! u16 (Is u16) (uint-makes 𝓤 H A W w16) (d .leaf) _ (refl, gl) $ fjoin ! $ move ! (1 ∷ 0 ∷ []) $ fjoin ! $
+      owned ! u16 (Is u16) (uint-makes 𝓤 H A W w16) (d .leaf) _ (refl, gl) $ fjoin ! $
+      owned ! P.the-row (Is P.the-row) (LL.makes P.the-type P′.the-plain 𝓤 H A) (d .ends) _ ge $ fjoin ! $ move ! (1 ∷ 0 ∷ []) $ fjoin ! $
       owned ! usize (Is usize) (uint-makes 𝓤 H A W w64) n _ (refl, gn) $ fjoin ! $ nothing ! $ join ! $ frame ! $ done !
 
-  tell-said : (cs : List ℕ) (t : Told) → ent 𝓤 (ensured 𝓤 H A tell.ended (tell.clauses 𝓤 H A mem run) tt (n, (cs, (d .leaf, (d .action, (p, tt))))) tt t) (fact 𝓤 (t ≡ told cs))
-  tell-said cs t = exE 𝓤 _ (λ ws. snd∗ 𝓤 (sem 𝓤 H A (lasts tell.ended tt (n, (cs, (d .leaf, (d .action, (p, tt))))) ws)) (fact 𝓤 (t ≡ told cs)))
+  tell-said : (cs : List ℕ) (t : Told) → ent 𝓤 (ensured 𝓤 H A tell.ended (tell.clauses 𝓤 H A mem run) tt (n, (cs, (d .ends, (d .leaf, (d .action, (p, tt)))))) tt t) (fact 𝓤 (t ≡ told cs))
+  tell-said cs t = exE 𝓤 _ (λ ws. snd∗ 𝓤 (sem 𝓤 H A (lasts tell.ended tt (n, (cs, (d .ends, (d .leaf, (d .action, (p, tt)))))) ws)) (fact 𝓤 (t ≡ told cs)))
 
   -- the call of `answer`, on what was told
   abbrev asked : Val → Vals answer.signature (κ, tt)
@@ -224,56 +242,57 @@ module _ {M : Type 1} (𝓤 : URA M) (H : Heap 𝓤) (A : Atoms 𝓤) (W : Given
       move ! (1 ∷ []) $ frame ! $ nothing ! $ owned ! P.the-row (Is P.the-row) (LL.makes P.the-type P′.the-plain 𝓤 H A) p _ is-p $ fjoin ! $ move ! (2 ∷ 0 ∷ []) $ fjoin ! $ frame ! $ done !
 
   -- what the calls say, one after the other, is the view's definition
-  viewed : (k : ℕ) (cs : List ℕ) (t : Told) (r : Looked) → k ≡ countOf n → cs ≡ linksOf ys k → t ≡ told cs → r ≡ read t → r ≡ found
-  viewed k cs t r e₁ e₂ e₃ e₄ = e₄ ∙ ap read (e₃ ∙ ap told (e₂ ∙ ap (linksOf ys) e₁)) ∙ answer-viewed ys (d .leaf) (d .action) p
+  viewed : PointFits (d .ends) → (k : ℕ) (cs : List ℕ) (t : Told) (r : Looked) → k ≡ countOf n → cs ≡ linksOf ys k → t ≡ told cs → r ≡ read t → r ≡ found
+  viewed f k cs t r e₁ e₂ e₃ e₄ = e₄ ∙ ap read (e₃ ∙ ap told (e₂ ∙ ap (linksOf ys) e₁)) ∙ answer-viewed ys (d .ends) f (d .leaf) (d .action) p
 
   module _ (C : Calls 𝓤 H) (Λ : Loops 𝓤 H) (fm : FmC 𝓤 H (W .laws) C) (known-count : Triple 𝓤 (C #count) (Count 𝓤 H A mem run)) (known-gather : Triple 𝓤 (C #gather) (Gather 𝓤 H A mem run))
       (known-tell : Triple 𝓤 (C #tell) (Tell 𝓤 H A mem run)) (known-answer : Triple 𝓤 (C #answer) (Answer 𝓤 H A mem run)) where
     walk : Is (B (κ, tt)) d (mach ∷ []) → Holds (hasTy (T′.mir (named 0)) mach) × WT mach → ent 𝓤 (onEntry 𝓤 H A action.signature (κ, tt) (q, tt) (d, (p, tt)) at) (WpFn 𝓤 H C Λ code.function (mach ∷ pv ∷ []) Post)
     walk is-d wt =
         qed W (token ∷ ‵ (owns (B (κ, tt) ∷ P.the-row ∷ []) (d, (p, tt)) at) ∷ []) ∵ enter ! C Λ code.function (mach ∷ pv ∷ []) _ $
-        alloc1 ! (λ l₀. alloc1 ! (λ l₁. alloc1 ! (λ l₂. alloc1 ! (λ l₃. alloc1 ! (λ l₄. alloc1 ! (λ l₅. alloc1 ! (λ l₆. alloc1 ! (λ l₇. alloc1 ! (λ l₈. alloc1 ! (λ l₉. alloc1 ! (λ l₁₀. alloc0 ! $ params1 ! $
-        pass1 ! (init ! 18 refl wt) $ pass1 ! (init ! 16 refl (LL.lawful P.the-type P′.the-laws 𝓤 H A W .typed p _ is-p .0)) $ pass0 ! $
-        move ! (23 ∷ []) $ fsplit ! $ move ! (1 ∷ []) $ drop ! $
-        -- [what the struct owns; _10; …; _9; …; _8; …; _7; …; _6; …; _5; …; _4; …; _3; …; _2; …; _1; …; room for _0; …; the token]
-        assigns ! (of-opd ! (load ! (from ! (fld ! refl (fld ! refl (stop !)))) (look-in ! 19 (sub ! 1 refl (sub ! 0 refl (whole !)))))) (from ! (stop !)) (init ! 15 refl (tt, wt .1 .0 .1 .0)) $
+        alloc1 ! (λ l₀. alloc1 ! (λ l₁. alloc1 ! (λ l₂. alloc1 ! (λ l₃. alloc1 ! (λ l₄. alloc1 ! (λ l₅. alloc1 ! (λ l₆. alloc1 ! (λ l₇. alloc1 ! (λ l₈. alloc1 ! (λ l₉. alloc1 ! (λ l₁₀. alloc1 ! (λ l₁₁. alloc0 ! $ params1 ! $
+        pass1 ! (init ! 20 refl wt) $ pass1 ! (init ! 18 refl (LL.lawful P.the-type P′.the-laws 𝓤 H A W .typed p _ is-p .0)) $ pass0 ! $
+        move ! (25 ∷ []) $ fsplit ! $ move ! (1 ∷ []) $ drop ! $
+        -- [what the struct owns; _11; …; _10; …; _9; …; _8; …; _7; …; _6; …; _5; …; _4; …; _3; …; _2; …; _1; …; room for _0; …; the token]
+        assigns ! (of-opd ! (load ! (from ! (fld ! refl (fld ! refl (stop !)))) (look-in ! 21 (sub ! 1 refl (sub ! 0 refl (whole !)))))) (from ! (stop !)) (init ! 17 refl (tt, wt .1 .0 .1 .0)) $
         nothing ! $ use1 W (raw (Count 𝓤 H A mem run .pre to-count)) (goes-count (wt .1 .0 .1 .0 .fits)) $
-        calls-at ! fm (Count 𝓤 H A mem run) known-count to-count (and-then ! (load ! (from ! (stop !)) (look ! 16 refl)) (no-more !)) (λ u.
+        calls-at ! fm (Count 𝓤 H A mem run) known-count to-count (and-then ! (load ! (from ! (stop !)) (look ! 18 refl)) (no-more !)) (λ u.
         use1 W (later (some (λ (k : ℕ). (‵ ftrue ⊛ ‵ (usize .own k (u ∷ []))) ⊛ raw (ensured 𝓤 H A count.ended (count.clauses 𝓤 H A mem run) tt (n, tt) tt k)))) (id⊢ 𝓤 _) $ await ! tt $ pick ! (λ k.
         split ! $ move ! (1 ∷ []) $ use1 W (raw (fact 𝓤 (k ≡ countOf n))) (count-said k) $ heard ! (k ≡ countOf n) (λ e₁. split ! $ drop ! $
         peeks ! usize (Is usize) (shows 𝓤 H A usize) k (u ∷ []) (λ is-k. drop ! $
-        land ! (from ! (stop !)) (init ! 13 refl (uint-lawful 𝓤 H A W w64 .typed k _ is-k .0)) $ rewrite ! 13 (λ (z : Val). ‵ (fat fullShare (tyInt w64) l₄ 0 z)) (ap only (is-k .0)) refl $
-        assigns ! (of-opd ! (load ! (from ! (fld ! refl (stop !))) (look-in ! 19 (sub ! 0 refl (whole !))))) (from ! (stop !)) (init ! 7 refl (tt, wt .1 .0)) $
+        land ! (from ! (stop !)) (init ! 15 refl (uint-lawful 𝓤 H A W w64 .typed k _ is-k .0)) $ rewrite ! 15 (λ (z : Val). ‵ (fat fullShare (tyInt w64) l₄ 0 z)) (ap only (is-k .0)) refl $
+        assigns ! (of-opd ! (load ! (from ! (fld ! refl (stop !))) (look-in ! 21 (sub ! 0 refl (whole !))))) (from ! (stop !)) (init ! 9 refl (tt, wt .1 .0)) $
         use1 W (‵ Nodes ⊛ ‵ Own) apart $ split ! $ nothing ! $ owned ! usize (Is usize) (uint-makes 𝓤 H A W w64) k _ (refl, is-k .1) $ fjoin ! $ move ! (1 ∷ 0 ∷ []) $ fjoin ! $
-        -- [what `gather` is passed; what the struct owns; _10; …; the token]
-        move ! (24 ∷ 0 ∷ []) $ use2 W (raw (Gather 𝓤 H A mem run .pre (to-gather k))) (goes-gather k (subst (λ (j : ℕ). (j ≤ n) × (j ≤ 513)) (sym e₁) (count-fits n))) $
-        calls-at ! fm (Gather 𝓤 H A mem run) known-gather (to-gather k) (and-then ! (load ! (from ! (stop !)) (look ! 8 refl)) (and-then ! (load ! (from ! (stop !)) (look ! 14 refl)) (no-more !))) (λ u₂.
+        -- [what `gather` is passed; what the struct owns; _11; …; the token]
+        move ! (26 ∷ 0 ∷ []) $ use2 W (raw (Gather 𝓤 H A mem run .pre (to-gather k))) (goes-gather k (subst (λ (j : ℕ). (j ≤ n) × (j ≤ 513)) (sym e₁) (count-fits n))) $
+        calls-at ! fm (Gather 𝓤 H A mem run) known-gather (to-gather k) (and-then ! (load ! (from ! (stop !)) (look ! 10 refl)) (and-then ! (load ! (from ! (stop !)) (look ! 16 refl)) (no-more !))) (λ u₂.
         use1 W (later (some (λ (cs : List ℕ). (token ⊛ ‵ (Links .own cs (u₂ ∷ []))) ⊛ raw (ensured 𝓤 H A gather.ended (gather.clauses 𝓤 H A mem run) (κ, tt) (d .nodes, (k, tt)) tt cs)))) (id⊢ 𝓤 _) $ await ! tt $ pick ! (λ cs.
         split ! $ move ! (1 ∷ []) $ use1 W (raw (fact 𝓤 (cs ≡ linksOf ys k))) (gather-said k cs) $ heard ! (cs ≡ linksOf ys k) (λ e₂. split ! $ move ! (1 ∷ []) $
-        -- [what the links own; the token; what the struct owns; _10; …; _9; …; _8; …; _7; …; _6; …; _5; …; _4; …; _3; …; _2; …; _1; …; room for _0; …]
+        -- [what the links own; the token; what the struct owns; _11; …; _10; …; _9; …; _8; …; _7; …; _6; …; _5; …; _4; …; _3; …; _2; …; _1; …; room for _0; …]
         peeks ! Links (Is Links) (shows 𝓤 H A Links) cs (u₂ ∷ []) (λ is-cs.
-        land ! (from ! (stop !)) (init ! 13 refl (lawful 𝓤 H A W .typed cs _ is-cs .0)) $
-        assigns ! (of-opd ! (load ! (from ! (fld ! refl (stop !))) (look-in ! 21 (sub ! 1 refl (whole !))))) (from ! (stop !)) (init ! 7 refl (tt, wt .1 .1 .0)) $
-        assigns ! (of-opd ! (load ! (from ! (fld ! refl (stop !))) (look-in ! 21 (sub ! 2 refl (whole !))))) (from ! (stop !)) (init ! 5 refl (tt, wt .1 .1 .1 .0)) $
-        use1 W (raw (Tell 𝓤 H A mem run .pre (to-tell cs u₂))) (goes-tell (wt .1 .0 .1 .0 .fits) (wt .1 .1 .0 .fits) (LL.owed D L d _ is-d .1 .1 .0) cs u₂) $
-        calls-at ! fm (Tell 𝓤 H A mem run) known-tell (to-tell cs u₂) (and-then ! (load ! (from ! (stop !)) (look ! 17 refl)) (and-then ! (load ! (from ! (stop !)) (look ! 13 refl)) (and-then ! (load ! (from ! (stop !)) (look ! 7 refl)) (and-then ! (load ! (from ! (stop !)) (look ! 5 refl)) (and-then ! (load ! (from ! (stop !)) (look ! 19 refl)) (no-more !)))))) (λ u₃.
-        use1 W (later (some (λ (t : Told). (‵ ftrue ⊛ ‵ (O.the-row .own t (u₃ ∷ []))) ⊛ raw (ensured 𝓤 H A tell.ended (tell.clauses 𝓤 H A mem run) tt (n, (cs, (d .leaf, (d .action, (p, tt))))) tt t)))) (id⊢ 𝓤 _) $ await ! tt $ pick ! (λ t.
+        land ! (from ! (stop !)) (init ! 15 refl (lawful 𝓤 H A W .typed cs _ is-cs .0)) $
+        assigns ! (of-opd ! (load ! (from ! (fld ! refl (stop !))) (look-in ! 23 (sub ! 1 refl (whole !))))) (from ! (stop !)) (init ! 9 refl (tt, wt .1 .1 .0)) $
+        assigns ! (of-opd ! (load ! (from ! (fld ! refl (stop !))) (look-in ! 23 (sub ! 2 refl (whole !))))) (from ! (stop !)) (init ! 7 refl (tt, wt .1 .1 .1 .0)) $
+        assigns ! (of-opd ! (load ! (from ! (fld ! refl (stop !))) (look-in ! 23 (sub ! 3 refl (whole !))))) (from ! (stop !)) (init ! 5 refl (tt, wt .1 .1 .1 .1 .0)) $
+        use1 W (raw (Tell 𝓤 H A mem run .pre (to-tell cs u₂))) (goes-tell (wt .1 .0 .1 .0 .fits) (LL.owed D L d _ is-d .1 .0) (wt .1 .1 .1 .0 .fits) (LL.owed D L d _ is-d .1 .1 .1 .0) cs u₂) $
+        calls-at ! fm (Tell 𝓤 H A mem run) known-tell (to-tell cs u₂) (and-then ! (load ! (from ! (stop !)) (look ! 19 refl)) (and-then ! (load ! (from ! (stop !)) (look ! 15 refl)) (and-then ! (load ! (from ! (stop !)) (look ! 9 refl)) (and-then ! (load ! (from ! (stop !)) (look ! 7 refl)) (and-then ! (load ! (from ! (stop !)) (look ! 5 refl)) (and-then ! (load ! (from ! (stop !)) (look ! 21 refl)) (no-more !))))))) (λ u₃.
+        use1 W (later (some (λ (t : Told). (‵ ftrue ⊛ ‵ (O.the-row .own t (u₃ ∷ []))) ⊛ raw (ensured 𝓤 H A tell.ended (tell.clauses 𝓤 H A mem run) tt (n, (cs, (d .ends, (d .leaf, (d .action, (p, tt)))))) tt t)))) (id⊢ 𝓤 _) $ await ! tt $ pick ! (λ t.
         split ! $ move ! (1 ∷ []) $ use1 W (raw (fact 𝓤 (t ≡ told cs))) (tell-said cs t) $ heard ! (t ≡ told cs) (λ e₃. split ! $ drop ! $
         peeks ! O.the-row (Is O.the-row) (shows 𝓤 H A O.the-row) t (u₃ ∷ []) (λ is-t.
-        land ! (from ! (stop !)) (init ! 11 refl (EL.lawful O.the-type O′.the-laws 𝓤 H A W tt .typed t _ is-t .0)) $
-        assigns ! (of-opd ! (load ! (from ! (fld ! refl (stop !))) (look-in ! 21 (sub ! 0 refl (whole !))))) (from ! (stop !)) (init ! 3 refl (tt, wt .1 .0)) $
-        -- [what was told; the token; what the struct owns; _10; …]
+        land ! (from ! (stop !)) (init ! 13 refl (EL.lawful O.the-type O′.the-laws 𝓤 H A W tt .typed t _ is-t .0)) $
+        assigns ! (of-opd ! (load ! (from ! (fld ! refl (stop !))) (look-in ! 23 (sub ! 0 refl (whole !))))) (from ! (stop !)) (init ! 3 refl (tt, wt .1 .0)) $
+        -- [what was told; the token; what the struct owns; _11; …]
         move ! (2 ∷ []) $ use1 W (‵ Nodes ⊛ ‵ Own) apart $ split ! $ nothing ! $ move ! (3 ∷ 0 ∷ []) $ fjoin ! $ move ! (1 ∷ 0 ∷ []) $ fjoin ! $
         move ! (2 ∷ 0 ∷ []) $ use2 W (raw (Answer 𝓤 H A mem run .pre (to-answer t u₃))) (goes-answer t u₃) $
-        calls-at ! fm (Answer 𝓤 H A mem run) known-answer (to-answer t u₃) (and-then ! (load ! (from ! (stop !)) (look ! 2 refl)) (and-then ! (load ! (from ! (stop !)) (look ! 10 refl)) (no-more !))) (λ u₄.
+        calls-at ! fm (Answer 𝓤 H A mem run) known-answer (to-answer t u₃) (and-then ! (load ! (from ! (stop !)) (look ! 2 refl)) (and-then ! (load ! (from ! (stop !)) (look ! 12 refl)) (no-more !))) (λ u₄.
         use1 W (later (some (λ (r : Looked). (token ⊛ ‵ (K.the-row .own r (u₄ ∷ []))) ⊛ raw (ensured 𝓤 H A answer.ended (answer.clauses 𝓤 H A mem run) (κ, tt) (d .nodes, (t, tt)) tt r)))) (id⊢ 𝓤 _) $ await ! tt $ pick ! (λ r.
         split ! $ move ! (1 ∷ []) $ use1 W (raw (fact 𝓤 (r ≡ read t))) (answer-said t r) $ heard ! (r ≡ read t) (λ e₄. split ! $ move ! (1 ∷ []) $
         peeks ! K.the-row (Is K.the-row) (shows 𝓤 H A K.the-row) r (u₄ ∷ []) (λ is-r.
-        land ! (from ! (stop !)) (init ! 23 refl (EL.lawful K.the-type K′.the-laws 𝓤 H A W tt .typed r _ is-r .0)) $
-        returns ! (look ! 23 refl) $ forget ! 3 refl $ forget ! 5 refl $ forget ! 7 refl $ forget ! 9 refl $ forget ! 11 refl $ forget ! 13 refl $ forget ! 15 refl $ forget ! 17 refl $ forget ! 19 refl $ forget ! 21 refl $ forget ! 23 refl $
-        move ! (23 ∷ 24 ∷ []) $ free1 ! $ move ! (21 ∷ 22 ∷ []) $ free1 ! $ move ! (19 ∷ 20 ∷ []) $ free1 ! $ move ! (17 ∷ 18 ∷ []) $ free1 ! $ move ! (15 ∷ 16 ∷ []) $ free1 ! $ move ! (13 ∷ 14 ∷ []) $ free1 ! $
+        land ! (from ! (stop !)) (init ! 25 refl (EL.lawful K.the-type K′.the-laws 𝓤 H A W tt .typed r _ is-r .0)) $
+        returns ! (look ! 25 refl) $ forget ! 3 refl $ forget ! 5 refl $ forget ! 7 refl $ forget ! 9 refl $ forget ! 11 refl $ forget ! 13 refl $ forget ! 15 refl $ forget ! 17 refl $ forget ! 19 refl $ forget ! 21 refl $ forget ! 23 refl $ forget ! 25 refl $
+        move ! (25 ∷ 26 ∷ []) $ free1 ! $ move ! (23 ∷ 24 ∷ []) $ free1 ! $ move ! (21 ∷ 22 ∷ []) $ free1 ! $ move ! (19 ∷ 20 ∷ []) $ free1 ! $ move ! (17 ∷ 18 ∷ []) $ free1 ! $ move ! (15 ∷ 16 ∷ []) $ free1 ! $ move ! (13 ∷ 14 ∷ []) $ free1 ! $
         move ! (11 ∷ 12 ∷ []) $ free1 ! $ move ! (9 ∷ 10 ∷ []) $ free1 ! $ move ! (7 ∷ 8 ∷ []) $ free1 ! $ move ! (5 ∷ 6 ∷ []) $ free1 ! $ move ! (3 ∷ 4 ∷ []) $ free1 ! $ free0 ! $
-        by ! (exits r u₄ (viewed k cs t r e₁ e₂ e₃ e₄)))))))))))))))))))))))))))))
+        by ! (exits r u₄ (viewed (point-fits (d .ends) (LL.owed D L d _ is-d .1 .0)) k cs t r e₁ e₂ e₃ e₄))))))))))))))))))))))))))))))
 
 module _ {M : Type 1} (𝓤 : URA M) (H : Heap 𝓤) (A : Atoms 𝓤) (W : Given 𝓤 H A) (mem : Memory → SProp 𝓤) (run : Routine → Fun 𝓤) (𝓣 : Tables 𝓤 H)
     (known-count : Triple 𝓤 (𝓣 .C #count) (Count 𝓤 H A mem run)) (known-gather : Triple 𝓤 (𝓣 .C #gather) (Gather 𝓤 H A mem run))

@@ -1,4 +1,4 @@
--- `AugmentedView::new` meets its contract: a walk of its MIR, by hand. The struct is made of the slice, the number and the action. Assumes nothing.
+-- `AugmentedView::new` meets its contract: a walk of its MIR, by hand. The struct is made of the slice, the ends, the number and the action. Assumes nothing.
 use mathlib.Core.Path.{refl}
 use Prim.Native.Nat.{ℕ, _<_, _^_}
 use mathlib.Core.List.{List, [], _∷_}
@@ -34,8 +34,11 @@ use denote.Triple.Table.{entered}
 use denote.Triple.Walked.{says, Stays, stay-none-slice, stay-none, walkOf, goes-none-slice, goes-none, Walks, ends-at, walked, walk-meets}
 use denote.Exit.{yes}
 use Rattle.remy.specs.declared.action.Action.{Action}
+use Rattle.remy.specs.declared.point.Point.{Point}
 use Rattle.remy.proofs.action.Action as A₁
 use Rattle.remy.proofs.action.Action.Laws as A′
+use Rattle.remy.proofs.point.Point as P
+use Rattle.remy.proofs.point.Point.Laws as P′
 use Rattle.rule_tree.specs.declared.Node.{Node}
 use Rattle.rule_tree.proofs.Node as N
 use Rattle.rule_tree_view.specs.declared.AugmentedView.{AugmentedView}
@@ -48,30 +51,33 @@ use Rattle.rule_tree_view.proofs.AugmentedView.new.Statement as stated
 use Rattle.rule_tree_view.proofs.AugmentedView.new.Code as code
 
 abbrev stayed : Stays (new.ended .signature .params) (new.ended .kept)
-stayed = (stay-none-slice (0 ∷ []) tt (plain (λ _. N.the-row)) yes, (stay-none (λ _. u16) yes, (stay-none (λ _. A₁.the-row) yes, tt)))
+stayed = (stay-none-slice (0 ∷ []) tt (plain (λ _. N.the-row)) yes, (stay-none (λ _. P.the-row) yes, (stay-none (λ _. u16) yes, (stay-none (λ _. A₁.the-row) yes, tt))))
 
 abbrev Arg : Type 0
-Arg = RefT (List Node) × (ℕ × (Action × Unit {0}))
+Arg = RefT (List Node) × (Point × (ℕ × (Action × Unit {0})))
 
-module _ {M : Type 1} (𝓤 : URA M) (H : Heap 𝓤) (A : Atoms 𝓤) (W : Given 𝓤 H A) (mem : Memory → SProp 𝓤) (run : Routine → Fun 𝓤) (κ : Lft) (q : Share) (s : RefT (List Node)) (l : ℕ) (a : Action) where
+module _ {M : Type 1} (𝓤 : URA M) (H : Heap 𝓤) (A : Atoms 𝓤) (W : Given 𝓤 H A) (mem : Memory → SProp 𝓤) (run : Routine → Fun 𝓤) (κ : Lft) (q : Share) (s : RefT (List Node)) (e : Point) (l : ℕ) (a : Action) where
   abbrev α : NamedLft
   α = namedLft 1 0 tt (κ, tt)
 
   abbrev x : Arg
-  x = (s, (l, (a, tt)))
+  x = (s, (e, (l, (a, tt))))
 
-  -- the machine values that s and a have
+  -- the machine values that s, e and a have
   abbrev v : Val
   v = sliceVal (s .ptr) (length (s .now))
+
+  abbrev ev : Val
+  ev = P′.lowered e
 
   abbrev w : Val
   w = A′.lowered a
 
   abbrev made : AugmentedView
-  made = viewWith s l a
+  made = viewWith s e l a
 
-  abbrev at : List Val × (List Val × (List Val × Unit {0}))
-  at = (v ∷ [], (vint w16 l ∷ [], (w ∷ [], tt)))
+  abbrev at : List Val × (List Val × (List Val × (List Val × Unit {0})))
+  at = (v ∷ [], (ev ∷ [], (vint w16 l ∷ [], (w ∷ [], tt))))
 
   abbrev Post : Val → SProp 𝓤
   Post = walkOf 𝓤 H A new.ended stayed (new.clauses 𝓤 H A mem run) .post (((κ, tt), (q, tt), tt, x, at), tt)
@@ -79,31 +85,32 @@ module _ {M : Type 1} (𝓤 : URA M) (H : Heap 𝓤) (A : Atoms 𝓤) (W : Given
   abbrev Own : Fml
   Own = ShrSlice (named 0) κ N.the-row .own s (v ∷ [])
 
-  exits : l < 2 ^ 16 → Is A₁.the-row a (w ∷ []) → ent 𝓤 (onEntry 𝓤 H A new.signature (κ, tt) (q, tt) x at) (Post (T′.lowered made))
-  exits fits is =
-      qed W ((‵ (flft κ q) ⊛ ‵ ftrue) ∷ ‵ (owns (ShrSlice (named 0) κ N.the-row ∷ u16 ∷ A₁.the-row ∷ []) x at) ∷ []) ∵
-      suffices ! _ (ends-at 𝓤 H A new.ended stayed (new.clauses 𝓤 H A mem run) W (((κ, tt), (q, tt), tt, x, at), tt) (T′.lowered made) made (tt, (tt, (tt, tt))) (tt, (tt, (tt, tt)))) $ says ! refl $
+  exits : Is P.the-row e (ev ∷ []) → l < 2 ^ 16 → Is A₁.the-row a (w ∷ []) → ent 𝓤 (onEntry 𝓤 H A new.signature (κ, tt) (q, tt) x at) (Post (T′.lowered made))
+  exits is-e fits is =
+      qed W ((‵ (flft κ q) ⊛ ‵ ftrue) ∷ ‵ (owns (ShrSlice (named 0) κ N.the-row ∷ P.the-row ∷ u16 ∷ A₁.the-row ∷ []) x at) ∷ []) ∵
+      suffices ! _ (ends-at 𝓤 H A new.ended stayed (new.clauses 𝓤 H A mem run) W (((κ, tt), (q, tt), tt, x, at), tt) (T′.lowered made) made (tt, (tt, (tt, (tt, tt)))) (tt, (tt, (tt, (tt, tt))))) $ says ! refl $
       frame ! $ fsplit ! $ use1 W (‵ Own ⊛ ‵ Own) (shr-slice-copy 𝓤 H A W (named 0) κ N.the-row .twice s (v ∷ [])) $ split ! $ move ! (0 ∷ 2 ∷ []) $ fjoin ! $ frame ! $
       -- [what nodes owns]: with the other fields' facts, what the struct owns
-      nothing ! $ owned ! A₁.the-row (Is A₁.the-row) (LL.makes A₁.the-type A′.the-plain 𝓤 H A) a _ is $ fjoin ! $ owned ! u16 (Is u16) (uint-makes 𝓤 H A W w16) l _ (refl, fits) $ fjoin ! $ move ! (1 ∷ 0 ∷ []) $ fjoin ! $ by ! (own-shut 𝓤 H A W (T.the-type α) (T′.the-laws α) (s, (l, (a, tt))))
+      nothing ! $ owned ! A₁.the-row (Is A₁.the-row) (LL.makes A₁.the-type A′.the-plain 𝓤 H A) a _ is $ fjoin ! $ owned ! u16 (Is u16) (uint-makes 𝓤 H A W w16) l _ (refl, fits) $ fjoin ! $
+      owned ! P.the-row (Is P.the-row) (LL.makes P.the-type P′.the-plain 𝓤 H A) e _ is-e $ fjoin ! $ move ! (1 ∷ 0 ∷ []) $ fjoin ! $ by ! (own-shut 𝓤 H A W (T.the-type α) (T′.the-laws α) (s, (e, (l, (a, tt)))))
 
   module _ (C : Calls 𝓤 H) (Λ : Loops 𝓤 H) where
-    walk : Is (ShrSlice (named 0) κ N.the-row) s (v ∷ []) → l < 2 ^ 16 → Is A₁.the-row a (w ∷ []) → ent 𝓤 (onEntry 𝓤 H A new.signature (κ, tt) (q, tt) x at) (WpFn 𝓤 H C Λ code.function (v ∷ vint w16 l ∷ w ∷ []) Post)
-    walk p fits is =
-        let ps = shr-slice-lawful 𝓤 H A W (named 0) κ N.the-row .typed s (v ∷ []) p .0 in let ws = LL.lawful A₁.the-type A′.the-laws 𝓤 H A W .typed a (w ∷ []) is .0 in
-        qed W (raw (onEntry 𝓤 H A new.signature (κ, tt) (q, tt) x at) ∷ []) ∵ enter ! C Λ code.function (v ∷ vint w16 l ∷ w ∷ []) _ $
-        alloc1 ! (λ l₀. alloc1 ! (λ l₁. alloc1 ! (λ l₂. alloc1 ! (λ l₃. alloc0 ! $ params1 ! $ pass1 ! (init ! 4 refl ps) $ pass1 ! (init ! 2 refl (tt, record { fits = fits })) $ pass1 ! (init ! 0 refl ws) $ pass0 ! $
-        assigns ! (agg ! (and-then ! (load ! (from ! (stop !)) (look ! 4 refl)) (and-then ! (load ! (from ! (stop !)) (look ! 2 refl)) (and-then ! (load ! (from ! (stop !)) (look ! 0 refl)) (no-more !))))) (from ! (stop !)) (init ! 6 refl (tt, (ps .1, (record { fits = fits }, (ws .1, tt))))) $
-        returns ! (look ! 6 refl) $ forget ! 0 refl $ forget ! 2 refl $ forget ! 4 refl $ forget ! 6 refl $ move ! (6 ∷ 7 ∷ []) $ free1 ! $ move ! (4 ∷ 5 ∷ []) $ free1 ! $ move ! (2 ∷ 3 ∷ []) $ free1 ! $ free1 ! $ free0 ! $ by ! (exits fits is)))))
+    walk : Is (ShrSlice (named 0) κ N.the-row) s (v ∷ []) → Is P.the-row e (ev ∷ []) → l < 2 ^ 16 → Is A₁.the-row a (w ∷ []) → ent 𝓤 (onEntry 𝓤 H A new.signature (κ, tt) (q, tt) x at) (WpFn 𝓤 H C Λ code.function (v ∷ ev ∷ vint w16 l ∷ w ∷ []) Post)
+    walk p is-e fits is =
+        let ps = shr-slice-lawful 𝓤 H A W (named 0) κ N.the-row .typed s (v ∷ []) p .0 in let es = LL.lawful P.the-type P′.the-laws 𝓤 H A W .typed e (ev ∷ []) is-e .0 in let ws = LL.lawful A₁.the-type A′.the-laws 𝓤 H A W .typed a (w ∷ []) is .0 in
+        qed W (raw (onEntry 𝓤 H A new.signature (κ, tt) (q, tt) x at) ∷ []) ∵ enter ! C Λ code.function (v ∷ ev ∷ vint w16 l ∷ w ∷ []) _ $
+        alloc1 ! (λ l₀. alloc1 ! (λ l₁. alloc1 ! (λ l₂. alloc1 ! (λ l₃. alloc1 ! (λ l₄. alloc0 ! $ params1 ! $ pass1 ! (init ! 6 refl ps) $ pass1 ! (init ! 4 refl es) $ pass1 ! (init ! 2 refl (tt, record { fits = fits })) $ pass1 ! (init ! 0 refl ws) $ pass0 ! $
+        assigns ! (agg ! (and-then ! (load ! (from ! (stop !)) (look ! 6 refl)) (and-then ! (load ! (from ! (stop !)) (look ! 4 refl)) (and-then ! (load ! (from ! (stop !)) (look ! 2 refl)) (and-then ! (load ! (from ! (stop !)) (look ! 0 refl)) (no-more !)))))) (from ! (stop !)) (init ! 8 refl (tt, (ps .1, (es .1, (record { fits = fits }, (ws .1, tt)))))) $
+        returns ! (look ! 8 refl) $ forget ! 0 refl $ forget ! 2 refl $ forget ! 4 refl $ forget ! 6 refl $ forget ! 8 refl $ move ! (8 ∷ 9 ∷ []) $ free1 ! $ move ! (6 ∷ 7 ∷ []) $ free1 ! $ move ! (4 ∷ 5 ∷ []) $ free1 ! $ move ! (2 ∷ 3 ∷ []) $ free1 ! $ free1 ! $ free0 ! $ by ! (exits is-e fits is))))))
 
 module _ {M : Type 1} (𝓤 : URA M) (H : Heap 𝓤) (A : Atoms 𝓤) (W : Given 𝓤 H A) (mem : Memory → SProp 𝓤) (run : Routine → Fun 𝓤) where
   new-walks : (C : Calls 𝓤 H) (Λ : Loops 𝓤 H) → Walks 𝓤 H A new.ended stayed (WpFn 𝓤 H C Λ code.function) (new.clauses 𝓤 H A mem run)
-  new-walks C Λ = walked 𝓤 H A new.ended stayed (new.clauses 𝓤 H A mem run) (WpFn 𝓤 H C Λ code.function) (λ κs. (slice-vals, (uint-vals w16, (LL.vals A₁.the-type A′.the-laws, tt)))) (λ κs. (shr-slice-tells (named 0) (κs .0) N.the-row, (uint-tells w16, (LL.tells A₁.the-type A′.the-laws, tt))))
-      (λ κs qs bounds a g are. via 𝓤 _ (fst∗ 𝓤 _ (emp 𝓤)) (walk 𝓤 H A W mem run (κs .0) (qs .0) (a .0) (a .1 .0) (a .1 .1 .0) C Λ (are .0) (are .1 .0 .1) (are .1 .1 .0)))
+  new-walks C Λ = walked 𝓤 H A new.ended stayed (new.clauses 𝓤 H A mem run) (WpFn 𝓤 H C Λ code.function) (λ κs. (slice-vals, (LL.vals P.the-type P′.the-laws, (uint-vals w16, (LL.vals A₁.the-type A′.the-laws, tt))))) (λ κs. (shr-slice-tells (named 0) (κs .0) N.the-row, (LL.tells P.the-type P′.the-laws, (uint-tells w16, (LL.tells A₁.the-type A′.the-laws, tt)))))
+      (λ κs qs bounds a g are. via 𝓤 _ (fst∗ 𝓤 _ (emp 𝓤)) (walk 𝓤 H A W mem run (κs .0) (qs .0) (a .0) (a .1 .0) (a .1 .1 .0) (a .1 .1 .1 .0) C Λ (are .0) (are .1 .0) (are .1 .1 .0 .1) (are .1 .1 .1 .0)))
 
 new-meets : {M : Type 1} (𝓤 : URA M) (H : Heap 𝓤) (A : Atoms 𝓤) → Given 𝓤 H A → (mem : Memory → SProp 𝓤) (run : Routine → Fun 𝓤) (𝓣 : Tables 𝓤 H)
     → Meets 𝓤 H A new.signature (WpFn 𝓤 H (𝓣 .C) (𝓣 .Λ) code.function) (new.spec 𝓤 H A mem run)
-new-meets 𝓤 H A W mem run 𝓣 = walk-meets 𝓤 H A new.ended stayed W (goes-none-slice 𝓤 H A W 1 (0 ∷ []) tt (plain (λ _. N.the-row)) yes, (goes-none 𝓤 H A W 1 (λ _. u16) yes (λ κs x f. refl), (goes-none 𝓤 H A W 1 (λ _. A₁.the-row) yes (λ κs x f. refl), tt))) (new.clauses 𝓤 H A mem run) (WpFn 𝓤 H (𝓣 .C) (𝓣 .Λ) code.function) (WpFn-mono 𝓤 H (W .laws) 𝓣 code.function) (new-walks 𝓤 H A W mem run (𝓣 .C) (𝓣 .Λ))
+new-meets 𝓤 H A W mem run 𝓣 = walk-meets 𝓤 H A new.ended stayed W (goes-none-slice 𝓤 H A W 1 (0 ∷ []) tt (plain (λ _. N.the-row)) yes, (goes-none 𝓤 H A W 1 (λ _. P.the-row) yes (λ κs x f. refl), (goes-none 𝓤 H A W 1 (λ _. u16) yes (λ κs x f. refl), (goes-none 𝓤 H A W 1 (λ _. A₁.the-row) yes (λ κs x f. refl), tt)))) (new.clauses 𝓤 H A mem run) (WpFn 𝓤 H (𝓣 .C) (𝓣 .Λ) code.function) (WpFn-mono 𝓤 H (W .laws) 𝓣 code.function) (new-walks 𝓤 H A W mem run (𝓣 .C) (𝓣 .Λ))
 
 pub new-spec : {M : Type 1} → stated.statement M
 unfolding code.routine tablesOf

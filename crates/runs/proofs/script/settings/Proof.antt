@@ -34,8 +34,11 @@ action-requires-4 c κs = search needs
 action-requires-5 : tie.Need-action-requires-5
 action-requires-5 c κs = search needs
 
+ends-requires : tie.Need-ends-requires
+ends-requires c κs = tt
+
 returns : tie.Need-returns
-returns c = law.settings-read (c .before .before .before .before .before .before .before .before .before .before .args .ws .now) (c .before .before .before .before .before .before .before .before .number .ensures) (c .before .before .before .before .before .before .before .number2 .ensures) (c .before .before .before .before .before .before .number3 .ensures) (ap (λ (n : ℕ). eqb n 1) (c .before .before .before .before .before .word .ensures)) (c .before .before .before .before .action .ensures) (c .before .before .before .action2 .ensures) (c .before .before .action3 .ensures) (c .before .action4 .ensures) (c .action5 .ensures)
+returns c = law.settings-read (c .before .before .before .before .before .before .before .before .before .before .before .args .ws .now) (c .before .before .before .before .before .before .before .before .before .number .ensures) (c .before .before .before .before .before .before .before .before .number2 .ensures) (c .before .before .before .before .before .before .before .number3 .ensures) (ap (λ (n : ℕ). eqb n 1) (c .before .before .before .before .before .before .word .ensures)) (c .before .before .before .before .before .action .ensures) (c .before .before .before .before .action2 .ensures) (c .before .before .before .action3 .ensures) (c .before .before .action4 .ensures) (c .before .action5 .ensures) (c .ends .ensures)
 
 pub settings-spec : {M : Type 1} → statement M
 settings-spec =
@@ -50,4 +53,5 @@ settings-spec =
     action-requires-3
     action-requires-4
     action-requires-5
+    ends-requires
     returns)

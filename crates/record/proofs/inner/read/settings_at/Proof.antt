@@ -55,10 +55,16 @@ add-action-at-5 c = search needs
 action-at-requires-5 : tie.Need-action-at-requires-5
 action-at-requires-5 c κs = search needs
 
+add-ends-at : tie.Need-add-ends-at
+add-ends-at c = search needs
+
+ends-at-requires : tie.Need-ends-at-requires
+ends-at-requires c κs = search needs
+
 returns : tie.Need-returns
-returns c = law.settings-read (c .before .before .before .before .before .before .before .before .before .before .args .bytes .now) (c .before .before .before .before .before .before .before .before .before .before .args .at) (c .before .before .before .before .before .before .before .before .word-at .ensures) (c .before .before .before .before .before .before .before .word-at2 .ensures) (c .before .before .before .before .before .before .word-at3 .ensures)
-    (c .before .before .before .before .before .flag-at .ensures) (c .before .before .before .before .action-at .ensures) (c .before .before .before .action-at2 .ensures) (c .before .before .action-at3 .ensures)
-    (c .before .action-at4 .ensures) (c .action-at5 .ensures)
+returns c = law.settings-read (c .before .before .before .before .before .before .before .before .before .before .before .args .l) (c .before .before .before .before .before .before .before .before .before .before .before .args .bytes .now) (c .before .before .before .before .before .before .before .before .before .before .before .args .at) (c .before .before .before .before .before .before .before .before .before .word-at .ensures) (c .before .before .before .before .before .before .before .before .word-at2 .ensures) (c .before .before .before .before .before .before .before .word-at3 .ensures)
+    (c .before .before .before .before .before .before .flag-at .ensures) (c .before .before .before .before .before .action-at .ensures) (c .before .before .before .before .action-at2 .ensures) (c .before .before .before .action-at3 .ensures)
+    (c .before .before .action-at4 .ensures) (c .before .action-at5 .ensures) (c .ends-at .ensures)
 
 pub settings-at-spec : {M : Type 1} → statement M
 settings-at-spec =
@@ -81,4 +87,6 @@ settings-at-spec =
     action-at-requires-4
     add-action-at-5
     action-at-requires-5
+    add-ends-at
+    ends-at-requires
     returns)

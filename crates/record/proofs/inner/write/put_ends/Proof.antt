@@ -15,10 +15,10 @@ same-length : tie.Need-same-length
 same-length c = search needs
 
 returns : tie.Need-returns
-returns c = law.ends-written (c .before .before .before .before .before .before .before .args .buf .now) (c .before .before .before .before .before .before .before .args .at) (c .before .before .before .before .before .before .before .args .l) (c .before .before .before .before .before .before .before .args .t) (c .before .before .before .before .before .if1 .taken) (c .before .before .put-point .ensures)
+returns c = law.ends-written (c .before .before .before .before .before .before .before .args .buf .now) (c .before .before .before .before .before .before .before .args .at) (c .before .before .before .before .before .before .before .args .l) (c .before .before .before .before .before .before .before .args .s) (c .before .before .before .before .before .if1 .taken) (c .before .before .put-point .ensures)
 
 returns-2 : tie.Need-returns-2
-returns-2 c = law.ends-skipped (c .before .before .args .buf .now) (c .before .before .args .at) (c .before .before .args .l) (c .before .before .args .t) (c .if1 .left)
+returns-2 c = law.ends-skipped (c .before .before .args .buf .now) (c .before .before .args .at) (c .before .before .args .l) (c .before .before .args .s) (c .if1 .left)
 
 pub put-ends-spec : {M : Type 1} → statement M
 put-ends-spec = tie.close (tie.spec put-point-requires add-result same-length returns returns-2)

@@ -10,25 +10,25 @@ use Rattle.trainer.proofs.inner.axes.changes_hold.Tie as tie
 returns : tie.Need-returns
 unfolding ofBits
 returns c =
-    changes-all _ _ (toZ-ofZ w32 (c .before .before .before .before .before .before .before .before .before .before .before .before .before .before .args .s .«initial_change» .«window_increment») (search needs)) _ (toZ-ofZ w32 (c .before .before .before .before .before .before .before .before .before .before .before .before .before .before .args .s .«max_change» .«window_increment») (search needs))
+    changes-all _ _ (toZ-ofZ w32 (c .before .before .before .before .before .before .before .before .before .before .before .before .before .before .args .s .«initial_action_change» .«window_increment») (search needs)) _ (toZ-ofZ w32 (c .before .before .before .before .before .before .before .before .before .before .before .before .before .before .args .s .«max_action_change» .«window_increment») (search needs))
     (c .before .before .before .before .before .before .before .before .before .before .if1 .taken) (c .before .before .before .before .before .before .before .if2 .taken) (c .before .before .before .before .before .if3 .taken) (c .before .before .if4 .taken)
 
 returns-2 : tie.Need-returns-2
 unfolding ofBits
 returns-2 c =
-    changes-large _ _ (toZ-ofZ w32 (c .before .before .before .before .before .before .before .before .before .before .before .before .args .s .«initial_change» .«window_increment») (search needs))
+    changes-large _ _ (toZ-ofZ w32 (c .before .before .before .before .before .before .before .before .before .before .before .before .args .s .«initial_action_change» .«window_increment») (search needs))
     (c .before .before .before .before .before .before .before .before .if1 .taken) (c .before .before .before .before .before .if2 .taken) (c .before .before .before .if3 .taken) (c .if4 .left)
 
 returns-3 : tie.Need-returns-3
 unfolding ofBits
 returns-3 c =
-    changes-delay _ _ (toZ-ofZ w32 (c .before .before .before .before .before .before .before .before .before .args .s .«initial_change» .«window_increment») (search needs))
+    changes-delay _ _ (toZ-ofZ w32 (c .before .before .before .before .before .before .before .before .before .args .s .«initial_action_change» .«window_increment») (search needs))
     (c .before .before .before .before .before .if1 .taken) (c .before .before .if2 .taken) (c .if3 .left)
 
 returns-4 : tie.Need-returns-4
 unfolding ofBits
 returns-4 c =
-    changes-increment _ _ (toZ-ofZ w32 (c .before .before .before .before .before .before .before .args .s .«initial_change» .«window_increment») (search needs))
+    changes-increment _ _ (toZ-ofZ w32 (c .before .before .before .before .before .before .before .args .s .«initial_action_change» .«window_increment») (search needs))
     (c .before .before .before .if1 .taken) (c .if2 .left)
 
 returns-5 : tie.Need-returns-5

@@ -9,7 +9,7 @@ kept-wholes-requires : tie.Need-kept-wholes-requires
 kept-wholes-requires c κs =
     let a = c .before .before .before .before .before .before .before .before .before in
     let p = parts (a .args .s) (a .pre .0) in (
-      fits-back _ (a .args .s .«initial_change» .«window_increment») (a .args .s .«max_change» .«window_increment») (search needs)
+      fits-back _ (a .args .s .«initial_action_change» .«window_increment») (a .args .s .«max_action_change» .«window_increment») (search needs)
           (search needs) (whole-fits _ (p .0) (p .2)),
       at-bits {z = a .args .a .«window_increment»} (search needs) (increment-small _ (a .pre .1)),
     )
@@ -20,7 +20,7 @@ returns c =
     record {
       few = c .kept-wholes .ensures .few;
       list =
-          kept-back _ (s .«initial_change» .«window_increment») (s .«max_change» .«window_increment») (search needs) (search needs)
+          kept-back _ (s .«initial_action_change» .«window_increment») (s .«max_action_change» .«window_increment») (search needs) (search needs)
           (c .before .before .before .before .before .before .before .before .before .before .args .a .«window_increment») (s .«min_action» .«window_increment») (s .«max_action» .«window_increment») _
           (search needs) (search needs) (search needs) (c .kept-wholes .ensures .list);
     }

@@ -4,9 +4,6 @@ use Rattle.trainer.proofs.Steps as step
 use Rattle.trainer.proofs.inner.begin.begin_training.Statement.{statement}
 use Rattle.trainer.proofs.inner.begin.begin_training.Tie as tie
 
-usual-ends-requires : tie.Need-usual-ends-requires
-usual-ends-requires c κs = search needs
-
 fresh-requires : tie.Need-fresh-requires
 fresh-requires c κs = search needs
 
@@ -14,8 +11,8 @@ begin-round-requires : tie.Need-begin-round-requires
 begin-round-requires c κs = search needs
 
 returns : tie.Need-returns
-returns c = step.training-begins (c .before .before .before .before .args .s) _ _ _ (c .before .before .usual-ends .ensures) (c .before .fresh .ensures) (c .begin-round .ensures)
+returns c = step.training-begins (c .before .before .before .before .args .s) _ _ (c .before .fresh .ensures) (c .begin-round .ensures)
 
 pub begin-training-spec : {M : Type 1} → statement M
 begin-training-spec =
-    tie.close (tie.spec usual-ends-requires fresh-requires begin-round-requires returns)
+    tie.close (tie.spec fresh-requires begin-round-requires returns)

@@ -8,6 +8,9 @@ use Rattle.trainer.proofs.inner.begin.blank.Tie as tie
 new-requires : tie.Need-new-requires
 new-requires c κs = search needs
 
+new-requires-2 : tie.Need-new-requires-2
+new-requires-2 c κs = search needs
+
 blank-requires : tie.Need-blank-requires
 blank-requires c κs = search needs
 
@@ -16,7 +19,9 @@ stand-at-requires c κs = search needs
 
 returns : tie.Need-returns
 unfolding ofBits
-returns c = step.blank-is _ _ _ (c .before .before .new .ensures) (c .before .blank .ensures) (c .stand-at .ensures)
+returns c =
+    step.blank-is _ _ _ _ (c .before .before .before .new .ensures) (c .before .before .new2 .ensures) (c .before .blank .ensures)
+    (c .stand-at .ensures)
 
 pub blank-spec : {M : Type 1} → statement M
-blank-spec = tie.close (tie.spec new-requires blank-requires stand-at-requires returns)
+blank-spec = tie.close (tie.spec new-requires new-requires-2 blank-requires stand-at-requires returns)

@@ -1,4 +1,4 @@
--- `Settings::hold` asks the four tests in turn. Assumes nothing.
+-- `Settings::hold` asks its tests in turn. Assumes nothing.
 use mathlib.Core.Path.{sym, _∙_}
 use borrow.Author.Needs.{needs}
 use Rattle.trainer.proofs.Holds.{hold-all, hold-changes, hold-actions, hold-numbers}
@@ -14,8 +14,8 @@ actions-hold-requires c κs = search needs
 changes-hold-requires : tie.Need-changes-hold-requires
 changes-hold-requires c κs = search needs
 
-axes-hold-requires : tie.Need-axes-hold-requires
-axes-hold-requires c κs = (
+ranges-hold-requires : tie.Need-ranges-hold-requires
+ranges-hold-requires c κs = (
   sym (c .before .before .before .before .before .numbers-hold .ensures) ∙ c .before .before .before .before .if1 .taken,
   sym (c .before .changes-hold .ensures) ∙ c .if3 .taken,
 )
@@ -26,7 +26,7 @@ returns c =
     (sym (c .before .before .before .before .before .before .numbers-hold .ensures) ∙ c .before .before .before .before .before .if1 .taken)
     (sym (c .before .before .before .before .actions-hold .ensures) ∙ c .before .before .before .if2 .taken)
     (sym (c .before .before .changes-hold .ensures) ∙ c .before .if3 .taken)
-    (c .axes-hold .ensures)
+    (c .ranges-hold .ensures)
 
 returns-2 : tie.Need-returns-2
 returns-2 c =
@@ -48,7 +48,7 @@ hold-spec =
     numbers-hold-requires
     actions-hold-requires
     changes-hold-requires
-    axes-hold-requires
+    ranges-hold-requires
     returns
     returns-2
     returns-3

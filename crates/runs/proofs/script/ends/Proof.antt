@@ -1,0 +1,24 @@
+-- The upper ends of three words. Assumes nothing.
+use Rattle.runs.proofs.Reading as law
+use Rattle.runs.proofs.script.ends.Statement.{statement}
+use Rattle.runs.proofs.script.ends.Tie as tie
+
+float-requires : tie.Need-float-requires
+float-requires c κs = tt
+
+float-requires-2 : tie.Need-float-requires-2
+float-requires-2 c κs = tt
+
+float-requires-3 : tie.Need-float-requires-3
+float-requires-3 c κs = tt
+
+new-requires : tie.Need-new-requires
+new-requires c κs = tt
+
+returns : tie.Need-returns
+returns c =
+    law.ends-read (c .before .before .before .before .before .args .ws .now) (c .new .ensures) (c .before .before .before .float .ensures)
+    (c .before .before .float2 .ensures) (c .before .float3 .ensures)
+
+pub ends-spec : {M : Type 1} → statement M
+ends-spec = tie.close (tie.spec float-requires float-requires-2 float-requires-3 new-requires returns)
