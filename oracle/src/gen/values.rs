@@ -110,7 +110,9 @@ pub fn end(dice: &mut Dice) -> f64 {
     match dice.below(8) {
         0 => 1.0,
         1 => 1_000_000.0,
-        2 => dice.pick(&[1.0f64.next_up(), 1_000_000.0f64.next_down(), 2.0f64.next_down(), 600.0f64.next_up()]),
+        2 => {
+            dice.pick(&[1.0f64.next_up(), 1_000_000.0f64.next_down(), 2.0f64.next_down(), 600.0f64.next_up()])
+        }
         3 => dice.pick(&[1.5, 2.0, 3.25, 64.0, 1024.0, 524_288.0]),
         4 => dice.pick(&[3.3, 1.1, 1.0 + (0.1 + 0.2), (0.1 + 0.7) * 10.0, 599.9, 1000.0 / 3.0]),
         5 => 1.0 + dice.unit(),
@@ -288,7 +290,7 @@ pub fn vary_settings(s: &mut Settings, dice: &mut Dice) {
             s.initial_change.increment = 1;
             s.max_change.increment = reach_whole(1, s.multiplier.clamp(2, 16), values, dice);
         }
-        _ => s.ends = edge_ends(dice)
+        _ => s.ends = edge_ends(dice),
     }
     // With an axis that is empty anyway, a zero initial change is all that is wrong.
     if dice.one_in(3) && s.initial_change.multiplier == 0.0 {
