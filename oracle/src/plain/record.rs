@@ -2,9 +2,9 @@
 
 use super::{Action, Phase, Point, Refused, Settings, Trainer, Tree, NAN, USUAL_ENDS};
 
-/// The version that is saved, with every node and the upper ends; the second has no ends, the first neither, but
-/// the leaves alone.
-pub const VERSION: u8 = 3;
+/// The version that is saved, with every node and the upper ends. The second has no ends; the first has none either, and of the
+/// nodes the leaves alone.
+const VERSION: u8 = 3;
 const FIRST: u8 = 1;
 const LONGEST: usize = 16_384;
 const NONE_KEPT: u16 = 65_535;
