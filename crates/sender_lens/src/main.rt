@@ -217,6 +217,32 @@ fn events() {
     event(s3, other, Event::Tick);
 }
 
+// A tree of one leaf with these upper ends.
+fn tree_to(acks: f64, sends: f64, ratio: f64) -> RuleTree {
+    let action = Action::new(1.0, 10, 0.25);
+    let ends = Point::new(acks, sends, ratio);
+    RuleTree::new(ends, action).tree
+}
+
+fn fast_radio() {
+    let s = start(
+        b"a fast radio, gaps below 1 s: a gap of 1 s, one of 0.75 s, and the first over the usual ends",
+        RepeatMode::Off,
+    );
+    let tree = tree_to(1.0, 1.0, 1000.0);
+    let s1 = event(s, tree, Event::Ack(0.0, 0.5, Draw::Absent));
+    event(s1, tree, Event::Ack(0.5, 1.5, Draw::Absent));
+    event(s1, tree, Event::Ack(0.5, 1.25, Draw::Absent));
+    let usual = tree_to(600.0, 600.0, 1000.0);
+    event(s1, usual, Event::Ack(0.5, 1.5, Draw::Absent));
+    let r = start(
+        b"a ratio below 1: a first ack, whose ratio is 1",
+        RepeatMode::Off,
+    );
+    let narrow = tree_to(600.0, 600.0, 1.0);
+    event(r, narrow, Event::Ack(0.0, 0.5, Draw::Absent));
+}
+
 fn main() {
     draw_zero();
     no_round_trip();
@@ -226,4 +252,5 @@ fn main() {
     modes();
     sends_and_wakes();
     events();
+    fast_radio();
 }
