@@ -43,6 +43,9 @@ int main(void) {
     printf("record of %u bytes\n", (unsigned)size);
     printf("short buffer: refused %u\n",
            knellstone_refusal(knellstone_start(settings, sizeof settings, next, KNELLSTONE_RECORD_FRESH - 1)));
+    put_float(settings + KNELLSTONE_SETTINGS - 24, 0.5);
+    printf("an upper end of half a second: refused %u\n",
+           knellstone_refusal(knellstone_start(settings, sizeof settings, next, sizeof next)));
     printf("no split to take back: refused %u\n",
            knellstone_refusal(knellstone_undo_split(record, size, next, sizeof next)));
     put(counts, 5, 8);
