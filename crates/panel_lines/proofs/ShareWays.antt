@@ -9,9 +9,10 @@ use native.Mathlib.Omega.{arith}
 use lib.Dec.{eqb, ltb}
 use lib.ListN.{length, getD, take, replicate}
 use Rattle.rule_tree.specs.Lists.{countBelow, tabulate, total}
-use Rattle.rule_tree.proofs.Lists.{countBelow-yes, countBelow-no}
-use Rattle.panel_lines.specs.Shares.{sumBelow, cutAt, remainderAt, missingIn, ahead, everyEntry, rankIn, shareIn, Totalled, Some, Entry}
+use Rattle.rule_tree.proofs.Lists.{countBelow-yes, countBelow-no, length-tabulate, getD-tabulate}
+use Rattle.panel_lines.specs.Shares.{sumBelow, cutAt, remainderAt, missingIn, ahead, everyEntry, rankIn, rankOf, shareIn, Totalled, Some, Entry}
 use Rattle.panel_lines.proofs.Filling.{filled-zeros}
+use Rattle.panel_lines.proofs.Sums.{count-same}
 use Rattle.panel_lines.proofs.Cuts.{count-below, missing-is, cuts-fit-part}
 use Rattle.panel_lines.proofs.Shares.{more-yes, more-no, share-is, share-of-nothing}
 
@@ -49,41 +50,62 @@ module _ (xs : List ℕ) (all : ℕ) (c : Some xs all) where
         omega (arith, missing-is xs)
 
 -- ---- rank_of
-module _ (xs : List ℕ) (i : ℕ) where
-  pub rank-start : 0 ≡ countBelow 0 (λ k. ahead (remainderAt xs) i k)
+module _ (rs : List ℕ) (i : ℕ) where
+  abbrev pub aheadOf : ℕ → Bool
+  aheadOf j = ahead (λ k. getD rs k 0) i j
+
+  pub rank-start : 0 ≡ countBelow 0 aheadOf
   unfolding countBelow
   rank-start = refl
 
-  pub rank-done : (j n : ℕ) → j ≤ length xs → length xs ≤ j → n ≡ countBelow j (λ k. ahead (remainderAt xs) i k) → n ≡ rankIn xs i
-  rank-done j n l g e = let p : j ≡ length xs = omega arith in subst (λ (k : ℕ). n ≡ countBelow k (λ m. ahead (remainderAt xs) i m)) p e
+  pub rank-done : (j n : ℕ) → j ≤ length rs → length rs ≤ j → n ≡ countBelow j aheadOf → n ≡ rankOf rs i
+  rank-done j n l g e = let p : j ≡ length rs = omega arith in subst (λ (k : ℕ). n ≡ countBelow k aheadOf) p e
 
-module _ (xs : List ℕ) (all i own : ℕ) (t : Totalled xs all) (s : own ≡ 1000 * getD xs i 0 % all) where
-  remainder-is : (j : ℕ) → 1000 * getD xs j 0 % all ≡ remainderAt xs j
-  remainder-is j = ap (λ (k : ℕ). 1000 * getD xs j 0 % k) (t .sum)
-
-  module _ (j n : ℕ) (h : n ≡ countBelow j (λ k. ahead (remainderAt xs) i k)) (other : ℕ) (o : other ≡ 1000 * getD xs j 0 % all)
-      (r : Bool) (e : r ≡ (ltb own other || (eqb other own && ltb j i))) where
-    tested : ahead (remainderAt xs) i j ≡ r
+  module _ (j n : ℕ) (h : n ≡ countBelow j aheadOf) (r : Bool) (e : r ≡ (ltb (getD rs i 0) (getD rs j 0) || (eqb (getD rs j 0) (getD rs i 0) && ltb j i))) where
+    tested : aheadOf j ≡ r
     unfolding ahead
-    tested = let a = sym (remainder-is i) ∙ sym s in let b = sym (remainder-is j) ∙ sym o in rw (a, b, e)
+    tested = sym e
 
-    pub rank-yes : r ≡ true → n + 1 ≡ countBelow (j + 1) (λ k. ahead (remainderAt xs) i k)
-    rank-yes q = let a = countBelow-yes j (λ k. ahead (remainderAt xs) i k) (tested ∙ q) in omega arith
+    pub rank-yes : r ≡ true → n + 1 ≡ countBelow (j + 1) aheadOf
+    rank-yes q = let a = countBelow-yes j aheadOf (tested ∙ q) in omega arith
 
-    pub rank-no : r ≡ false → n ≡ countBelow (j + 1) (λ k. ahead (remainderAt xs) i k)
-    rank-no q = let a = countBelow-no j (λ k. ahead (remainderAt xs) i k) (tested ∙ q) in omega arith
+    pub rank-no : r ≡ false → n ≡ countBelow (j + 1) aheadOf
+    rank-no q = let a = countBelow-no j aheadOf (tested ∙ q) in omega arith
+
+-- the rank goes by the remainders alone
+ahead-same : (f g : ℕ → ℕ) (i j : ℕ) → f i ≡ g i → f j ≡ g j → ahead f i j ≡ ahead g i j
+unfolding ahead
+ahead-same f g i j p q = rw (p, q)
+
+pub rank-is : (xs rs : List ℕ) (i : ℕ) → i < length xs → rs ≡ tabulate (length xs) (remainderAt xs) → rankOf rs i ≡ rankIn xs i
+rank-is xs rs i l e =
+    let n = length xs in
+    let read : (j : ℕ) → j < n → getD rs j 0 ≡ remainderAt xs j = λ j m. ap (λ (r : List ℕ). getD r j 0) e ∙ getD-tabulate n j (remainderAt xs) 0 m in
+    ap (λ (k : ℕ). countBelow k (λ j. ahead (λ m. getD rs m 0) i j)) (ap length e ∙ length-tabulate n (remainderAt xs))
+    ∙ count-same n (λ j. ahead (λ k. getD rs k 0) i j) (λ j. ahead (remainderAt xs) i j)
+    (λ j m. ahead-same (λ k. getD rs k 0) (remainderAt xs) i j (read i l) (read j m))
+
+-- ---- remainders_of
+pub remainder-is : (xs : List ℕ) (all j : ℕ) → Totalled xs all → 1000 * getD xs j 0 % all ≡ remainderAt xs j
+remainder-is xs all j t = ap (λ (k : ℕ). 1000 * getD xs j 0 % k) (t .sum)
 
 -- ---- share_at
-module _ (xs : List ℕ) (all missing i : ℕ) (t : Entry xs all i) (m : missing ≡ missingIn xs) (r : ℕ) (e : r ≡ rankIn xs i) where
-  pub share-more : r < missing → 1000 * getD xs i 0 / all + 1 ≡ shareIn xs i
-  share-more l =
-      let a = more-yes (rankIn xs i) (missingIn xs) (omega arith) in
-      omega (arith, cut-is xs all (t .counts) i, share-is xs (some xs all (t .counts)) everyEntry i)
+module _ (xs : List ℕ) (all : ℕ) (rs : List ℕ) (missing i : ℕ) (t : Entry xs all rs missing i) where
+  pub entry-ranked : (length rs ≤ 513) × (i < length rs)
+  entry-ranked =
+      let l = ap length (t .left) ∙ length-tabulate (length xs) (remainderAt xs) in
+      (omega (arith, t .counts .totalled .few), omega (arith, t .inside))
 
-  pub share-cut : missing ≤ r → 1000 * getD xs i 0 / all ≡ shareIn xs i
-  share-cut l =
-      let a = more-no (rankIn xs i) (missingIn xs) (omega arith) in
-      omega (arith, cut-is xs all (t .counts) i, share-is xs (some xs all (t .counts)) everyEntry i)
+  module _ (r : ℕ) (e : r ≡ rankOf rs i) where
+    pub share-more : r < missing → 1000 * getD xs i 0 / all + 1 ≡ shareIn xs i
+    share-more l =
+        let a = more-yes (rankIn xs i) (missingIn xs) (omega (arith, t .lacking, rank-is xs rs i (t .inside) (t .left))) in
+        omega (arith, cut-is xs all (t .counts) i, share-is xs (some xs all (t .counts)) everyEntry i)
+
+    pub share-cut : missing ≤ r → 1000 * getD xs i 0 / all ≡ shareIn xs i
+    share-cut l =
+        let a = more-no (rankIn xs i) (missingIn xs) (omega (arith, t .lacking, rank-is xs rs i (t .inside) (t .left))) in
+        omega (arith, cut-is xs all (t .counts) i, share-is xs (some xs all (t .counts)) everyEntry i)
 
 pub share-room : (xs : List ℕ) (all i : ℕ) → Totalled xs all → 1000 * getD xs i 0 / all ≤ 1000
 share-room xs all i t = div-le-of-le-mul all (let h = count-below xs i in omega (arith, t .sum))

@@ -6,7 +6,7 @@ use mathlib.Core.List.{List}
 use Prim.Native.Nat.{ℕ, zero, suc, _+_, _-_, _*_, _/_, _%_, _<_, _≤_}
 use lib.ListN.{length, getD}
 use lib.Dec.{eqb, ltb}
-use Rattle.rule_tree.specs.Lists.{countBelow, total}
+use Rattle.rule_tree.specs.Lists.{countBelow, tabulate, total}
 
 -- f 0 + f 1 + .. of n numbers
 unfoldable pub sumBelow : ℕ → (ℕ → ℕ) → ℕ
@@ -50,6 +50,10 @@ missingIn xs = missingAmong everyEntry xs
 abbrev pub rankIn : List ℕ → ℕ → ℕ
 rankIn xs i = countBelow (length xs) (λ j. ahead (remainderAt xs) i j)
 
+-- by remainders in a list
+abbrev pub rankOf : List ℕ → ℕ → ℕ
+rankOf remainders i = countBelow (length remainders) (λ j. ahead (λ k. getD remainders k 0) i j)
+
 abbrev pub shareIn : List ℕ → ℕ → ℕ
 shareIn xs i = shareAmong everyEntry xs i
 
@@ -64,7 +68,9 @@ pub record Some (xs : List ℕ) (all : ℕ) : Type 0 where
   pub totalled : Totalled xs all
   pub some : 0 < all
 
--- and an entry of them
-pub record Entry (xs : List ℕ) (all i : ℕ) : Type 0 where
+-- and an entry of them, with the remainders and the thousandths missing
+pub record Entry (xs : List ℕ) (all : ℕ) (remainders : List ℕ) (missing i : ℕ) : Type 0 where
   pub counts : Some xs all
+  pub left : remainders ≡ tabulate (length xs) (remainderAt xs)
+  pub lacking : missing ≡ missingIn xs
   pub inside : i < length xs

@@ -4,7 +4,8 @@ ghost use mathlib.Core.Bool.{_&&_, _||_};
 ghost use lib.Dec.{eqb, ltb};
 ghost use lib.ListN.{length, take};
 ghost use Rattle.rule_tree.specs.Lists.{tabulate};
-ghost use Rattle.panel_lines.specs.Shares.{missingIn, rankIn, shareIn, Totalled, Some, Entry};
+ghost use Prim.Native.Nat.{_<_, _≤_};
+ghost use Rattle.panel_lines.specs.Shares.{remainderAt, missingIn, rankOf, shareIn, Totalled, Some, Entry};
 
 // The thousandths that the cut shares leave.
 fn missing_of(counts: &[u64], all: u64) -> u64
@@ -33,16 +34,30 @@ fn is_ahead(own: u64, i: usize, other: u64, j: usize) -> bool
     false
 }
 
-// How many entries come before entry i.
-fn rank_of(counts: &[u64], all: u64, i: usize) -> u64
-    requires { ⌜ Entry (now counts) all i ⌝ }
-    ensures { λ r. ⌜ r ≡ rankIn (now (counts .entry)) i ⌝ }
+// What the cut leaves of each entry, in parts of the total.
+fn remainders_of(counts: &[u64], all: u64) -> [u64; 513]
+    requires { ⌜ Some (now counts) all ⌝ }
+    ensures { λ r. ⌜ take (length (now (counts .entry))) r ≡ tabulate (length (now (counts .entry))) (remainderAt (now (counts .entry))) ⌝ }
 {
-    let own = 1000 * counts[i] % all;
+    let mut remainders = [0u64; 513];
+    let mut i: usize = 0;
+    while i < counts.len() {
+        remainders[i] = 1000 * counts[i] % all;
+        i += 1;
+    }
+    remainders
+}
+
+// How many entries come before entry i.
+fn rank_of(remainders: &[u64], i: usize) -> u64
+    requires { ⌜ (length (now remainders) ≤ 513) × (i < length (now remainders)) ⌝ }
+    ensures { λ r. ⌜ r ≡ rankOf (now (remainders .entry)) i ⌝ }
+{
+    let own = remainders[i];
     let mut n: u64 = 0;
     let mut j: usize = 0;
-    while j < counts.len() {
-        let other = 1000 * counts[j] % all;
+    while j < remainders.len() {
+        let other = remainders[j];
         if is_ahead(own, i, other, j) {
             n += 1;
         }
@@ -51,13 +66,13 @@ fn rank_of(counts: &[u64], all: u64, i: usize) -> u64
     n
 }
 
-// The share of entry i; missing is what missing_of answers.
-fn share_at(counts: &[u64], all: u64, missing: u64, i: usize) -> u64
-    requires { ⌜ (Entry (now counts) all i) × (missing ≡ missingIn (now counts)) ⌝ }
+// The share of entry i; remainders and missing are what remainders_of and missing_of answer.
+fn share_at(counts: &[u64], all: u64, remainders: &[u64], missing: u64, i: usize) -> u64
+    requires { ⌜ Entry (now counts) all (now remainders) missing i ⌝ }
     ensures { λ r. ⌜ r ≡ shareIn (now (counts .entry)) i ⌝ }
 {
     let cut = 1000 * counts[i] / all;
-    let rank = rank_of(counts, all, i);
+    let rank = rank_of(remainders, i);
     if rank < missing {
         return cut + 1;
     }
@@ -73,10 +88,12 @@ pub fn shares_of(counts: &[u64], all: u64) -> [u64; 513]
     if all == 0 {
         return shares;
     }
+    let n = counts.len();
     let missing = missing_of(counts, all);
+    let remainders = remainders_of(counts, all);
     let mut i: usize = 0;
-    while i < counts.len() {
-        shares[i] = share_at(counts, all, missing, i);
+    while i < n {
+        shares[i] = share_at(counts, all, &remainders[0..n], missing, i);
         i += 1;
     }
     shares
