@@ -91,7 +91,7 @@ uint64_t knellstone_sender(const uint8_t *mode, size_t mode_len, uint8_t *sender
 uint64_t knellstone_events(const uint8_t *record, size_t record_len, uint8_t *sender, size_t sender_len,
                            const uint8_t *events, size_t events_len, uint8_t *replies, size_t replies_len);
 
-/* The panel's lines of a record followed by its counts, 8 bytes each. 6, 7, 8, 4, 9 */
+/* The panel's lines of a record followed by its counts, 8 bytes each; the shares add up to 1000. 6, 7, 8, 4, 9 */
 uint64_t knellstone_panel(const uint8_t *input, size_t input_len, uint8_t *out, size_t out_len);
 
 #ifdef __cplusplus

@@ -11,8 +11,7 @@ ghost use Rattle.host_lists.specs.Lists.{candidatesIn, candidatesAfter, rowIn, 
 ghost use Rattle.host_answers.specs.Answers.{answersIn};
 ghost use Rattle.host_sender.specs.Layout.{newIn, newAfter};
 ghost use Rattle.host_sender.specs.Events.{events as eventsOf, senderLeft, repliesLeft};
-ghost use Rattle.host.specs.Answers.{answerOf, linesOf};
-use panel_lines::Shown;
+ghost use Rattle.host.specs.Answers.{answerOf};
 use record::Saved;
 
 fn answer(s: Saved) -> u64
@@ -21,15 +20,6 @@ fn answer(s: Saved) -> u64
     match s {
         Saved::Size(n) => n as u64,
         Saved::Refused(k) => 9223372036854775808 + (k as u64),
-    }
-}
-
-fn lines(s: Shown) -> u64
-    ensures { λ r. ⌜ r ≡ linesOf s ⌝ }
-{
-    match s {
-        Shown::Size(n) => n as u64,
-        Shown::Refused(k) => 9223372036854775808 + (k as u64),
     }
 }
 
@@ -128,10 +118,10 @@ pub extern "C" fn knellstone_events(
 // The panel's lines of a record followed by its counts.
 #[no_mangle]
 pub extern "C" fn knellstone_panel(input: &[u8], out: &mut [u8]) -> u64
-    ensures { λ r. ⌜ (r ≡ linesOf (panelOf (now (input .entry)) (now (out .entry)))) × (now (out .exit) ≡ outAfter (now (input .entry)) (now (out .entry)) (panelOf (now (input .entry)) (now (out .entry)))) ⌝ }
+    ensures { λ r. ⌜ (r ≡ answerOf (panelOf (now (input .entry)) (now (out .entry)))) × (now (out .exit) ≡ outAfter (now (input .entry)) (now (out .entry)) (panelOf (now (input .entry)) (now (out .entry)))) ⌝ }
 {
     let s = panel_lines::panel(input, out);
-    lines(s)
+    answer(s)
 }
 
 // Answers in turn, in one call, and writes the record after the last; all are taken, or none.

@@ -7,6 +7,5 @@ pub mod Senders
 pub mod SendersKept
 pub mod Panels
 pub mod TrainersGive
-pub mod PanelsGive
 pub mod SendersGive
 pub mod AcksGive

@@ -31,7 +31,7 @@ use Rattle.trainer.specs.Candidates.{candidatesOf, noCandidate}
 use Rattle.trainer.specs.State.{leafAction}
 use Rattle.trainer.specs.Calls.{progressOf}
 use Rattle.record.specs.Write.{recordOf}
-use Rattle.panel_lines.specs.Panel.{linesOf}
+use Rattle.panel_lines.specs.Panel.{textOf}
 use Rattle.sender.specs.declared.Moment.{Moment}
 use Rattle.sender.specs.declared.Moment.the-variants as moments
 use Rattle.sender.specs.declared.Pending.{Pending}
@@ -43,7 +43,7 @@ use Rattle.sender.specs.Acks.{windowIn, windowNow}
 use Rattle.sender.specs.Sender.{freshSender, ackOf}
 use Rattle.sender.specs.Sender.{leftBy}
 use Rattle.refusals.specs.Told.{Given, none, value, Picked, Asks, counts, score, done}
-use Rattle.refusals.specs.Order.{panelTree, panelCounts, ackPoint}
+use Rattle.refusals.specs.Order.{ackPoint}
 
 -- ---- the tree
 abbrev pub domainGives : RuleTree → ℕ → Given Cube
@@ -105,7 +105,7 @@ abbrev pub saveGives : Trainer → Given ℕ
 saveGives t = value (length (recordOf t))
 
 abbrev pub panelGives : List ℕ → Given ℕ
-panelGives input = value (length (linesOf (panelTree input) (panelCounts input)))
+panelGives input = value (length (textOf input))
 
 -- ---- moments and the sender
 abbrev pub admitGives : Float → Given Time

@@ -25,8 +25,6 @@ use Rattle.trainer.specs.declared.Question.{Question}
 use Rattle.trainer.specs.declared.Question.the-variants as question
 use Rattle.record.specs.declared.Saved.{Saved}
 use Rattle.record.specs.declared.Saved.the-variants as saved
-use Rattle.panel_lines.specs.declared.Shown.{Shown}
-use Rattle.panel_lines.specs.declared.Shown.the-variants as shown
 use Rattle.sender.specs.declared.Sender.{Sender}
 use Rattle.sender.specs.declared.Reply.{Reply}
 use Rattle.sender.specs.declared.Reply.the-variants as reply
@@ -118,10 +116,6 @@ questionTold (question.Refused k) = refusedWith k
 unfoldable pub savedTold : Saved → Told ℕ
 savedTold (saved.Size n) = gave n
 savedTold (saved.Refused k) = refusedWith k
-
-unfoldable pub shownTold : Shown → Told ℕ
-shownTold (shown.Size n) = gave n
-shownTold (shown.Refused k) = refusedWith k
 
 -- ---- moments and the sender
 unfoldable pub admittedTold : Admitted → Told Time

@@ -312,7 +312,7 @@ impl Trainer {
             .collect()
     }
 
-    /// The panel's lines: the share of each leaf, in thousandths.
+    /// The panel's lines: the share of each leaf, in thousandths that add up to 1000 (or all 0 where no count is above 0).
     pub fn panel(&self, counts: &[u64]) -> Result<String, Refusal> {
         let mut input = self.record.clone();
         input.extend(counts_bytes(counts));

@@ -203,4 +203,11 @@ fn panel() {
     assert_eq!(fresh().panel(&[0]).unwrap(), "leaves 1 splits 0\n0 0\n");
     assert_eq!(fresh().panel(&[]), Err(Refusal(4)));
     assert_eq!(fresh().panel(&[1, 1]), Err(Refusal(4)));
+    let mut split = Trainer::start(&Settings { rounds: 0, ..Settings::default() }).unwrap();
+    split.answer_counts(&[1]).unwrap();
+    assert_eq!(
+        split.panel(&[0, 1, 0, 1, 0, 1, 0, 0, 0]).unwrap(),
+        "leaves 8 splits 1\n1 334\n2 0\n3 333\n4 0\n5 333\n6 0\n7 0\n8 0\n"
+    );
+    assert_eq!(split.panel(&[1, 1, 0, 1, 0, 1, 0, 0, 0]), Err(Refusal(4)));
 }
