@@ -28,7 +28,7 @@ extern "C" {
 #define KNELLSTONE_MODE 9            /* 0 off, 1 always, 2 lo..=hi; u32 lo, u32 hi */
 #define KNELLSTONE_SENDER 108        /* docs/HOSTS.md has its layout */
 #define KNELLSTONE_EVENT 22          /* 0 ack, 1 send, 2 tick; sent 8, received 8; draw flag, u32 draw */
-#define KNELLSTONE_REPLY 5           /* refusal's number or 0, u32 window */
+#define KNELLSTONE_REPLY 6           /* refusal's number or 0, u32 window, 1 where an ack's window was clipped */
 
 /* The number of the refusal, or 0. */
 static inline uint32_t knellstone_refusal(uint64_t answer) {

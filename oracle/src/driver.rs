@@ -12,7 +12,7 @@ use flowforge::{
 
 use crate::{
     plain::{bits, Action, Answer, Phase, Refused, Sender, Trainer, Tree},
-    rust::{disagree, grow, of_action, same_sender, same_tree, shown, Originals, Shown},
+    rust::{disagree, grow, of_action, same_sender, same_tree, shown, to_action, Originals, Shown},
     script::{repeat, Call, Reader},
 };
 
@@ -405,6 +405,16 @@ impl Player {
                 let original = grow(&self.trainer.settings, &tree);
                 same_tree("the tree with its newest split taken back", &original, &tree);
                 tree_lines(&original, &tree)
+            }
+            Call::Apply(action, window) => {
+                let plain = action.apply_to(window);
+                // An original's sum is an i32, which a wider one overflows.
+                let original = match i32::try_from(action.window_sum(window)) {
+                    Ok(_) => to_action(&action).apply_to(window),
+                    Err(_) => plain,
+                };
+                let applied = agreed("the window rule", Ok(original), Ok(plain))?;
+                format!("applied {applied} {}", u8::from(action.clips(window)))
             }
             Call::Equal(record) => {
                 let other = Trainer::load(&record)?;

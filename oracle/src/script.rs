@@ -32,6 +32,7 @@ pub enum Call {
     Load(Vec<u8>),
     Equal(Vec<u8>),
     UndoSplit,
+    Apply(Action, u32),
 }
 
 #[derive(Debug)]
@@ -143,6 +144,7 @@ impl<'a> Reader<'a> {
             13 => Call::Load(self.record()?),
             14 => Call::Equal(self.record()?),
             17 => Call::UndoSplit,
+            22 => Call::Apply(self.action()?, self.u32()?),
             _ => return Err(BadScript),
         }))
     }
@@ -253,6 +255,11 @@ impl Writer {
                 self.record(record);
             }
             Call::UndoSplit => self.bytes.push(17),
+            Call::Apply(action, window) => {
+                self.bytes.push(22);
+                self.action(action);
+                self.bytes.extend(window.to_be_bytes());
+            }
         }
     }
 }

@@ -213,6 +213,22 @@ fn actions(t: &mut Table) {
             t.row(&format!("{name}: original"), to_action(&rule).apply_to(window), want);
         }
     }
+    for (window, multiplier, increment, clipped) in [
+        (999_999, 1.0, 1, false),
+        (1_000_000, 1.0, 1, true),
+        (5, 1.0, -5, false),
+        (5, 1.0, -6, true),
+        (1, -0.9, 0, false),
+        (5, f64::NAN, 7, true),
+        (0, f64::INFINITY, 7, true),
+        (1, 2_147_483_647.5, -2_147_000_000, false),
+        (1, 2_147_483_648.0, -2_147_000_000, true),
+        (1, -2_147_483_648.5, i32::MAX, true),
+        (1, -2_147_483_647.5, i32::MAX, false),
+    ] {
+        let rule = action(multiplier, increment, 0.0);
+        t.row(&format!("window {window}, {multiplier}, {increment}: clipped"), rule.clips(window), clipped);
+    }
     for (rule, valid) in [
         (action(-0.0, 1_000_000, -0.0), true),
         (action(5e-324, -1_000_000, -1.0), true),

@@ -285,6 +285,14 @@ fn equal(r: Replay, fields: &[u8], out: &mut [u8]) -> Replay {
     printed(r, at)
 }
 
+// The window rule alone, of an action and a window.
+fn apply(r: Replay, fields: &[u8], out: &mut [u8]) -> Replay {
+    let action = input::action_at(fields, 0);
+    let window = input::word_at(fields, 20) as u32;
+    let at = lines::applied(out, r.at, action.applied(window));
+    printed(r, at)
+}
+
 fn trainer_call(r: Replay, code: u8, fields: &[u8], out: &mut [u8]) -> Replay {
     match code {
         1 => answer_counts(r, fields, out),
@@ -320,6 +328,7 @@ pub(crate) fn call(r: Replay, code: u8, fields: &[u8], out: &mut [u8]) -> Replay
     match code {
         1 | 2 | 3 | 13 => trainer_call(r, code, fields, out),
         4 | 5 | 6 | 7 => sender_call(r, code, fields, out),
+        22 => apply(r, fields, out),
         _ => tree_call(r, code, fields, out),
     }
 }

@@ -373,6 +373,13 @@ impl Event {
     }
 }
 
+/// What a taken event hands back: the window, 0 while a send stands, and whether an ack's window was clipped.
+#[derive(Clone, Copy, Debug, PartialEq, Eq)]
+pub struct Reply {
+    pub window: u32,
+    pub clipped: bool,
+}
+
 /// A sender, in the 108 bytes that docs/HOSTS.md lays out.
 #[derive(Clone, Debug, PartialEq, Eq)]
 pub struct Sender {
@@ -408,22 +415,22 @@ impl Sender {
         float(&self.bytes[100..])
     }
 
-    /// Each event in turn over the trainer's tree: the window handed back, or the refusal, after which the
-    /// sender is as it was before that event.
-    pub fn run(&mut self, trainer: &Trainer, events: &[Event]) -> Vec<Result<u32, Refusal>> {
+    /// Each event in turn over the trainer's tree: its reply, or the refusal, after which the sender is as it
+    /// was before that event.
+    pub fn run(&mut self, trainer: &Trainer, events: &[Event]) -> Vec<Result<Reply, Refusal>> {
         let list: Vec<u8> = events.iter().flat_map(|e| e.to_bytes()).collect();
         let sender = &mut self.bytes;
-        let out = written(5 * events.len(), |out| raw::events(&trainer.record, sender, &list, out));
+        let out = written(6 * events.len(), |out| raw::events(&trainer.record, sender, &list, out));
         let out = out.expect("a trainer's record is accepted");
-        out.chunks(5)
+        out.chunks(6)
             .map(|r| match r[0] {
-                0 => Ok(u32::from_be_bytes(r[1..].try_into().unwrap())),
+                0 => Ok(Reply { window: u32::from_be_bytes(r[1..5].try_into().unwrap()), clipped: r[5] == 1 }),
                 n => Err(Refusal(n.into())),
             })
             .collect()
     }
 
-    pub fn ack(&mut self, trainer: &Trainer, sent: f64, received: f64, draw: Option<u32>) -> Result<u32, Refusal> {
+    pub fn ack(&mut self, trainer: &Trainer, sent: f64, received: f64, draw: Option<u32>) -> Result<Reply, Refusal> {
         self.run(trainer, &[Event::Ack { sent, received, draw }])[0]
     }
 }

@@ -1,6 +1,6 @@
 //! What is excluded is refused by its number, and then nothing has changed.
 
-use knellstone::{Action, Answer, Event, Point, Question, Refusal, RepeatMode, Sender, Settings, Trainer};
+use knellstone::{Action, Answer, Event, Point, Question, Refusal, RepeatMode, Reply, Sender, Settings, Trainer};
 
 fn fresh() -> Trainer {
     Trainer::start(&Settings::default()).unwrap()
@@ -188,13 +188,41 @@ fn events() {
     ];
     assert_eq!(sender.run(&trainer, &refused), [Err(Refusal(22)), Err(Refusal(1)), Err(Refusal(1))]);
     assert_eq!(sender, before);
-    assert_eq!(sender.ack(&trainer, 0.0, 0.05, None), Ok(2));
-    assert_eq!(sender.run(&trainer, &[Event::Send { at: 0.1 }, Event::Tick]), [Ok(0), Ok(2)]);
+    let window = |window| Ok(Reply { window, clipped: false });
+    assert_eq!(sender.ack(&trainer, 0.0, 0.05, None), window(2));
+    assert_eq!(sender.run(&trainer, &[Event::Send { at: 0.1 }, Event::Tick]), [window(0), window(2)]);
     assert_eq!(sender.run(&trainer, &[]), []);
     let mut drawn = Sender::new(RepeatMode::Between(1, 2)).unwrap();
     assert_eq!(drawn.ack(&trainer, 0.0, 0.05, None), Err(Refusal(5)));
     assert_eq!(drawn.ack(&trainer, 0.0, 0.05, Some(0)), Err(Refusal(5)));
-    assert_eq!(drawn.ack(&trainer, 0.0, 0.05, Some(2)), Ok(2));
+    assert_eq!(drawn.ack(&trainer, 0.0, 0.05, Some(2)), window(2));
+}
+
+#[test]
+fn clipped() {
+    let trainer = fresh();
+    // The default action adds 1: a window of 999,999 comes to 1,000,000, one of 1,000,000 is clipped.
+    let holding = |window: u32| {
+        let mut bytes = *Sender::new(RepeatMode::Always(1)).unwrap().bytes();
+        bytes[96..100].copy_from_slice(&window.to_be_bytes());
+        Sender::from_bytes(bytes)
+    };
+    let ack = |sent: f64| Event::Ack { sent, received: sent + 0.05, draw: None };
+    let reply = |window, clipped| Ok(Reply { window, clipped });
+    let mut sender = holding(999_999);
+    let events = [ack(0.0), ack(0.1), Event::Send { at: 0.2 }, ack(0.2), Event::Tick, ack(f64::NAN)];
+    assert_eq!(
+        sender.run(&trainer, &events),
+        [
+            reply(1_000_000, false),
+            reply(1_000_000, true),
+            reply(0, false),
+            reply(0, true),
+            reply(1_000_000, false),
+            Err(Refusal(1)),
+        ]
+    );
+    assert_eq!(holding(u32::MAX).run(&trainer, &[Event::Tick]), [reply(u32::MAX, false)]);
 }
 
 #[test]

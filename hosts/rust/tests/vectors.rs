@@ -144,7 +144,7 @@ fn call(script: &mut Script, trainer: &mut Trainer, sender: &mut Sender) -> Resu
                 5 => Event::Send { at: script.float()? },
                 _ => Event::Tick,
             };
-            let line = sender.run(trainer, &[event])[0].map_or_else(refused, |w| format!("window {w}"));
+            let line = sender.run(trainer, &[event])[0].map_or_else(refused, |r| format!("window {}", r.window));
             Gives::Lines(vec![line, sender_line(sender)])
         }
         8 => Gives::Lines(vec![found(trainer.lookup(&[script.point()?])[0])]),
@@ -182,7 +182,7 @@ fn call(script: &mut Script, trainer: &mut Trainer, sender: &mut Sender) -> Resu
             Gives::Lines(vec![Trainer::load(script.take(n)?).map_or_else(refused, same)])
         }
         7 => script.take(8).map(|_| Gives::Passes)?,
-        10 => script.take(24).map(|_| Gives::Passes)?,
+        10 | 22 => script.take(24).map(|_| Gives::Passes)?,
         12 => Gives::Tree(trainer.clone()),
         17 => {
             let mut copy = trainer.clone();

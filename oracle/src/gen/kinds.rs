@@ -409,7 +409,7 @@ pub fn limits(dice: Dice) -> Vec<u8> {
 
 /// A script of another kind that is cut, or goes on with what is no call.
 pub fn cut(mut dice: Dice) -> Vec<u8> {
-    let others: Vec<_> = KINDS.iter().filter(|(name, _)| !["cut", "undo", "ends"].contains(name)).collect();
+    let others: Vec<_> = KINDS.iter().filter(|(name, _)| !["cut", "undo", "ends", "apply"].contains(name)).collect();
     let (_, author) = others[dice.below(others.len())];
     let mut script = author(Dice(dice.next()));
     if dice.one_in(2) {
@@ -559,4 +559,37 @@ fn ack_at_ends(author: &mut Author) -> Ack {
         _ => sent + shortest,
     };
     Ack { sent, received, draw: author.any_ack().draw }
+}
+
+/// The window rule alone, mostly at the ends of its ranges: sums about 0 and 1,000,000, products about those of i32, and actions that
+/// are not valid.
+pub fn apply(dice: Dice) -> Vec<u8> {
+    let mut author = Author::small(dice);
+    for _ in 0..author.dice.within(10, 120) {
+        let dice = &mut author.dice;
+        let window = match dice.below(6) {
+            0 => dice.pick(&[0, 1, 2, 999_999, 1_000_000, 1_000_001, 2_147_483_647, 2_147_483_648, u32::MAX]),
+            1 => dice.next() as u32,
+            _ => dice.below(1_000_001) as u32,
+        };
+        let mut action = valid_action(dice);
+        match dice.below(8) {
+            0 => action.increment = 1_000_001 - dice.below(3) as i32 - window.min(1_000_000) as i32,
+            1 => action.increment = 1 - dice.below(3) as i32 - window.min(1_000_000) as i32,
+            2 => action.multiplier = dice.pick(&[f64::NAN, f64::INFINITY, f64::NEG_INFINITY]),
+            3 => action.multiplier = step(2_147_483_648.0 / f64::from(window.max(1)), dice),
+            4 => action.multiplier = step(-2_147_483_649.0 / f64::from(window.max(1)), dice),
+            5 => action.increment = dice.next() as i32,
+            6 => action.multiplier = -dice.unit() / f64::from(window.max(1)),
+            _ => {}
+        }
+        if dice.one_in(2) && (action.increment.unsigned_abs() > 100 || window < 100) {
+            action.multiplier = 1.0;
+        }
+        author.call(Call::Apply(action, window));
+        if author.dice.one_in(10) {
+            author.aside();
+        }
+    }
+    author.done()
 }
