@@ -55,7 +55,7 @@ fn held(make: impl FnOnce() -> RuleTree) -> (RuleTree, usize) {
     (tree, LIVE.load(Relaxed) + size_of::<RuleTree>())
 }
 
-/// 513 nodes of 32 bytes, the number of splits, which takes 8 with its padding, and three ends of 8.
+/// 513 nodes of 24 bytes, the number of splits, which takes 8 with its padding, and three ends of 8.
 const OURS: usize = 513 * 24 + 8 + 24;
 
 const NODE: usize = size_of::<RuleTreeNode>();
