@@ -11,8 +11,8 @@ use flowforge::{
 };
 
 use crate::{
-    plain::{bits, Action, Answer, Phase, Refused, Sender, Trainer, Tree},
-    rust::{disagree, grow, of_action, same_sender, same_tree, shown, Originals, Shown},
+    plain::{bits, next_list, tree_of, Action, Answer, Phase, Refused, Sender, Trainer, Tree},
+    rust::{self, disagree, grow, of_action, same_sender, same_tree, shown, Originals, Shown},
     script::{repeat, Call, Reader},
 };
 
@@ -404,6 +404,15 @@ impl Player {
                 let original = grow(&self.trainer.settings, &tree);
                 same_tree("the tree with its newest split taken back", &original, &tree);
                 tree_lines(&original, &tree)
+            }
+            Call::NextList(n, list) => {
+                let next = agreed("the next list", rust::next_list(n, &list), next_list(n, &list))?;
+                next.map_or("last".to_owned(), |next| {
+                    let settings = &self.trainer.settings;
+                    let tree = tree_of(settings.default, &next).expect("a list that grows a tree");
+                    same_tree("a small tree", &grow(settings, &tree), &tree);
+                    next.iter().fold("next".to_owned(), |line, node| format!("{line} {node}"))
+                })
             }
             Call::Equal(record) => {
                 let other = Trainer::load(&record)?;

@@ -32,6 +32,7 @@ pub enum Call {
     Load(Vec<u8>),
     Equal(Vec<u8>),
     UndoSplit,
+    NextList(u8, Vec<u16>),
 }
 
 #[derive(Debug)]
@@ -142,6 +143,10 @@ impl<'a> Reader<'a> {
             13 => Call::Load(self.record()?),
             14 => Call::Equal(self.record()?),
             17 => Call::UndoSplit,
+            26 => {
+                let (n, length) = (self.u8()?, self.u8()?);
+                Call::NextList(n, (0..length).map(|_| self.u16()).collect::<Result<_, _>>()?)
+            }
             _ => return Err(BadScript),
         }))
     }
@@ -251,6 +256,12 @@ impl Writer {
                 self.record(record);
             }
             Call::UndoSplit => self.bytes.push(17),
+            Call::NextList(n, list) => {
+                self.bytes.extend([26, *n, list.len() as u8]);
+                for node in list {
+                    self.bytes.extend(node.to_be_bytes());
+                }
+            }
         }
     }
 }

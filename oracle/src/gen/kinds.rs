@@ -12,7 +12,7 @@ use super::{
     Dice, KINDS,
 };
 use crate::{
-    plain::{Phase, Sender, Trainer},
+    plain::{next_list, split_lists, Phase, Sender, Trainer},
     rust::of_settings,
     script::{repeat, Call, Writer},
 };
@@ -409,7 +409,7 @@ pub fn limits(dice: Dice) -> Vec<u8> {
 
 /// A script of another kind that is cut, or goes on with what is no call.
 pub fn cut(mut dice: Dice) -> Vec<u8> {
-    let others: Vec<_> = KINDS.iter().filter(|(name, _)| !["cut", "undo"].contains(name)).collect();
+    let others: Vec<_> = KINDS.iter().filter(|(name, _)| !["cut", "undo", "lists"].contains(name)).collect();
     let (_, author) = others[dice.below(others.len())];
     let mut script = author(Dice(dice.next()));
     if dice.one_in(2) {
@@ -486,4 +486,61 @@ pub fn undo(dice: Dice) -> Vec<u8> {
         script.extend([17, author.dice.pick(&[15, 16, 18])]);
     }
     script
+}
+
+/// Every small tree in turn: from a list on, for some steps or to the last; and lists that are none of them.
+pub fn lists(dice: Dice) -> Vec<u8> {
+    let mut author = Author::small(dice);
+    for _ in 0..author.dice.within(2, 6) {
+        match author.dice.below(6) {
+            0 | 1 => {
+                let n = author.dice.pick(&[0, 1, 2, 3]);
+                let steps = author.dice.pick(&[2, 20, 150]);
+                walk(&mut author, n, Vec::new(), steps);
+            }
+            2 => {
+                let (n, lists) = (author.dice.pick(&[0, 1, 2, 3]), split_lists(3));
+                let list = lists[author.dice.below(lists.len())].clone();
+                walk(&mut author, n, list, 12);
+            }
+            3 | 4 => {
+                let n = author.dice.pick(&[0, 1, 2, 3, 3, 3, 3, 4, 255]);
+                let list = no_list(&mut author.dice);
+                author.call(Call::NextList(n, list));
+            }
+            _ => author.aside(),
+        }
+    }
+    let mut script = author.writer.bytes;
+    if author.dice.one_in(8) {
+        script.extend([26, 3, 2, 0, 0, 0]);
+    }
+    script
+}
+
+/// Each list that is given is asked for the next.
+fn walk(author: &mut Author, n: u8, mut list: Vec<u16>, steps: usize) {
+    for _ in 0..steps {
+        author.call(Call::NextList(n, list.clone()));
+        match next_list(n, &list) {
+            Ok(Some(next)) => list = next,
+            _ => break,
+        }
+    }
+}
+
+/// Mostly none of the lists, by little.
+fn no_list(dice: &mut Dice) -> Vec<u16> {
+    let lists = split_lists(3);
+    let mut list = lists[dice.below(lists.len())].clone();
+    match dice.below(6) {
+        0 => list.push(dice.below(26) as u16),
+        1 => list = (0..dice.within(0, 4)).map(|_| dice.below(18) as u16).collect(),
+        2 => list.resize(dice.pick(&[4, 5, 127, 255]), 1),
+        3 if !list.is_empty() => list[0] = dice.pick(&[0, 1, 9, u16::MAX]),
+        4 if list.len() > 1 => list[1] = dice.pick(&[0, 8, 9, 256]),
+        _ if list.len() > 2 => list[2] = dice.pick(&[0, list[1], 16, 17, 272]),
+        _ => {}
+    }
+    list
 }
