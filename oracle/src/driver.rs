@@ -11,7 +11,7 @@ use flowforge::{
 };
 
 use crate::{
-    plain::{bits, next_list, tree_of, Action, Answer, Phase, Refused, Sender, Trainer, Tree},
+    plain::{bits, even_row, next_list, tree_of, Action, Answer, Phase, Refused, Sender, Trainer, Tree},
     rust::{self, disagree, grow, of_action, same_sender, same_tree, shown, Originals, Shown},
     script::{repeat, Call, Reader},
 };
@@ -404,6 +404,10 @@ impl Player {
                 let original = grow(&self.trainer.settings, &tree);
                 same_tree("the tree with its newest split taken back", &original, &tree);
                 tree_lines(&original, &tree)
+            }
+            Call::EvenRow(point) => {
+                let row = agreed("a row", Ok(self.originals.even_row(&point)), Ok(even_row(&point)))?;
+                row.map_or("none".to_owned(), |row| format!("row {row}"))
             }
             Call::NextList(n, list) => {
                 let next = agreed("the next list", rust::next_list(n, &list), next_list(n, &list))?;

@@ -376,6 +376,17 @@ impl Originals {
         found.as_ref().map(of_action)
     }
 
+    /// The row of the even tree that holds a point: each leaf's action tells its row.
+    pub fn even_row(&mut self, point: &Point) -> Option<usize> {
+        self.note_zero(point);
+        let splits: Vec<u16> = (0..9).collect();
+        let mut tree = grown_by(&splits).expect("a leaf at each split");
+        for row in 0..64 {
+            leaf(&mut tree, 9 + row).action().window_increment = row as i32;
+        }
+        tree.action(&to_point(point)).map(|action| action.window_increment as usize)
+    }
+
     /// One lookup through the counting tree, whose counts are those lent.
     pub fn tally(&mut self, counts: &mut [u64], point: &Point) {
         self.note_zero(point);

@@ -32,6 +32,7 @@ pub enum Call {
     Load(Vec<u8>),
     Equal(Vec<u8>),
     UndoSplit,
+    EvenRow(Point),
     NextList(u8, Vec<u16>),
 }
 
@@ -143,6 +144,7 @@ impl<'a> Reader<'a> {
             13 => Call::Load(self.record()?),
             14 => Call::Equal(self.record()?),
             17 => Call::UndoSplit,
+            25 => Call::EvenRow(self.point()?),
             26 => {
                 let (n, length) = (self.u8()?, self.u8()?);
                 Call::NextList(n, (0..length).map(|_| self.u16()).collect::<Result<_, _>>()?)
@@ -256,6 +258,10 @@ impl Writer {
                 self.record(record);
             }
             Call::UndoSplit => self.bytes.push(17),
+            Call::EvenRow(point) => {
+                self.bytes.push(25);
+                self.point(point);
+            }
             Call::NextList(n, list) => {
                 self.bytes.extend([26, *n, list.len() as u8]);
                 for node in list {

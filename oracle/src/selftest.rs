@@ -54,6 +54,7 @@ pub fn run() -> i32 {
         sizes,
         undone,
         small_trees,
+        even_rows,
         versions,
         accepted,
         refused_records,
@@ -745,6 +746,29 @@ fn small_trees(t: &mut Table) {
         (3, &[0, 1, 2, 3], "refused 30"),
     ] {
         t.row(&format!("{n} {list:?}"), answers(&s, &[Call::NextList(n, list.to_vec())]), want);
+    }
+}
+
+fn even_rows(t: &mut Table) {
+    let row = |point| answers(&few(3, 1, false), &[Call::EvenRow(point)]);
+    for (point, want) in [
+        ([0.0, 0.0, 0.0], "row 0"),
+        ([-0.0, -0.0, -0.0], "row 0"),
+        ([0.0, 0.0, 250.0], "row 1"),
+        ([0.0, 150.0, 0.0], "row 2"),
+        ([150.0, 0.0, 0.0], "row 4"),
+        ([150.0f64.next_down(), 0.0, 0.0], "row 0"),
+        ([0.0, 0.0, 500.0], "row 8"),
+        ([0.0, 300.0, 0.0], "row 16"),
+        ([300.0, 0.0, 0.0], "row 32"),
+        ([600.0f64.next_down(), 600.0f64.next_down(), 1000.0f64.next_down()], "row 63"),
+        ([600.0, 0.0, 0.0], "none"),
+        ([0.0, 600.0, 0.0], "none"),
+        ([0.0, 0.0, 1000.0], "none"),
+        ([0.0, 0.0, -5e-324], "none"),
+        ([0.0, f64::NAN, 0.0], "none"),
+    ] {
+        t.row(&format!("the row of {point:?}"), row(point), want);
     }
 }
 

@@ -1,8 +1,9 @@
-// The calls on trees that need none at hand: the split list after another.
+// The calls on trees that need none at hand: the split list after another, and the row of the even tree that holds a point.
 ghost use Rattle.io.specs.Counts.{Counts};
 use crate::input;
 use crate::lines;
 use crate::output;
+use even::Placed;
 use small_trees::After;
 use small_trees::SplitList;
 
@@ -49,5 +50,17 @@ pub(crate) fn next_list(out: &mut [u8], at: usize, fields: &[u8]) -> usize {
         After::Next(list) => list_line(out, at, list),
         After::Last => lines::words(out, at, b"last"),
         After::Refused(number) => lines::refused(out, at, number),
+    }
+}
+
+// The row of the even tree that holds the point.
+pub(crate) fn even_row(out: &mut [u8], at: usize, fields: &[u8]) -> usize {
+    let found = even::row_of(input::point_at(fields, 0));
+    match found {
+        Placed::Row(row) => {
+            let next = output::named(out, at, b"row", row as u64);
+            output::end_line(out, next)
+        }
+        Placed::Nothing => lines::words(out, at, b"none"),
     }
 }

@@ -6,13 +6,13 @@ use super::{
     author::Author,
     records::unchecked,
     values::{
-        bad_action, calm_header, edge_settings, near_action, small_settings, step, valid_action,
-        vary_settings,
+        any_float, bad_action, calm_header, edge_float, edge_settings, near_action, small_settings, step,
+        valid_action, vary_settings,
     },
     Dice, KINDS,
 };
 use crate::{
-    plain::{next_list, split_lists, Phase, Sender, Trainer},
+    plain::{even_tree, next_list, split_lists, Phase, Sender, Trainer},
     rust::of_settings,
     script::{repeat, Call, Writer},
 };
@@ -409,7 +409,8 @@ pub fn limits(dice: Dice) -> Vec<u8> {
 
 /// A script of another kind that is cut, or goes on with what is no call.
 pub fn cut(mut dice: Dice) -> Vec<u8> {
-    let others: Vec<_> = KINDS.iter().filter(|(name, _)| !["cut", "undo", "lists"].contains(name)).collect();
+    let others: Vec<_> =
+        KINDS.iter().filter(|(name, _)| !["cut", "undo", "lists", "even"].contains(name)).collect();
     let (_, author) = others[dice.below(others.len())];
     let mut script = author(Dice(dice.next()));
     if dice.one_in(2) {
@@ -543,4 +544,36 @@ fn no_list(dice: &mut Dice) -> Vec<u16> {
         _ => {}
     }
     list
+}
+
+/// Rows of the even tree: at the ends and middles of its cubes, beside them, and anywhere.
+pub fn even(dice: Dice) -> Vec<u8> {
+    let mut author = Author::small(dice);
+    let tree = even_tree();
+    for _ in 0..author.dice.within(2, 60) {
+        let cube = tree.nodes[author.dice.below(tree.nodes.len())].cube;
+        let style = author.dice.below(6);
+        let dice = &mut author.dice;
+        let point = std::array::from_fn(|axis| {
+            let (min, max) = (cube.min[axis], cube.max[axis]);
+            let end = dice.pick(&[min, max, (min + max) / 2.0]);
+            match style {
+                0 => min,
+                1 => end,
+                2 => step(end, dice),
+                3 if dice.one_in(3) => any_float(dice),
+                4 if dice.one_in(3) => edge_float(dice),
+                _ => min + (max - min) * dice.unit(),
+            }
+        });
+        author.call(Call::EvenRow(point));
+        if author.dice.one_in(12) {
+            author.aside();
+        }
+    }
+    let mut script = author.writer.bytes;
+    if author.dice.one_in(8) {
+        script.extend(vec![25; author.dice.within(1, 24)]);
+    }
+    script
 }

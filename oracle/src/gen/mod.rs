@@ -23,6 +23,7 @@ pub const KINDS: &[(&str, fn(Dice) -> Vec<u8>)] = &[
     ("mixed", kinds::mixed),
     ("undo", kinds::undo),
     ("lists", kinds::lists),
+    ("even", kinds::even),
 ];
 
 /// None where there is no such kind.
