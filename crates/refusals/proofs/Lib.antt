@@ -10,3 +10,5 @@ pub mod TrainersGive
 pub mod PanelsGive
 pub mod SendersGive
 pub mod AcksGive
+pub mod SmallTrees
+pub mod EvenRows
