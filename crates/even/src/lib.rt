@@ -432,3 +432,18 @@ pub fn row_of(p: Point) -> Placed
     }
     Placed::Nothing
 }
+
+// The same by comparisons with the middles of two cubes, for callers that ask often: no table is made.
+pub fn row_toward(p: Point) -> Placed
+    ensures { λ r. ⌜ r ≡ rowOf p ⌝ }
+{
+    let root = Cube::root(Point::usual_ends());
+    if root.contains(p) {
+        let a = root.toward(p);
+        let c = a.cube;
+        let b = c.toward(p);
+        Placed::Row(a.number * 8 + b.number)
+    } else {
+        Placed::Nothing
+    }
+}

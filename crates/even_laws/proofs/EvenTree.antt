@@ -7,7 +7,6 @@ use mathlib.Core.List.{List}
 use Prim.Native.Nat.{ℕ, _+_, _-_, _*_, _/_, _%_, _<_, _≤_}
 use native.Mathlib.Omega.{arith}
 use lib.Dec.{eqb}
-use lib.Ieee.{fits}
 use lib.ListN.{getD}
 use borrow.Author.Tests.{eqb-true, eq-eqb}
 use Rattle.remy.specs.declared.action.Action.{Action}
@@ -15,7 +14,6 @@ use Rattle.remy.specs.declared.point.Point.{Point}
 use Rattle.remy.specs.declared.cube.Cube.{Cube}
 use Rattle.remy.specs.Action.{validOf}
 use Rattle.remy.specs.Cube.{usualEnds, rootOf, childCube, containsOf, Whole}
-use Rattle.remy.proofs.Ends.{whole-admitted, usual-admitted}
 use Rattle.rule_tree.specs.declared.RuleTree.{RuleTree}
 use Rattle.rule_tree.specs.declared.Looked.the-variants.{Found}
 use Rattle.rule_tree.specs.Lists.{tabulate, occurrences, allBelow}
@@ -37,12 +35,8 @@ use Rattle.rule_tree_laws.proofs.Partition.{InOneLeaf, in-one-leaf, in-none}
 use Rattle.even.specs.declared.Placed.the-variants.{Row, Nothing}
 use Rattle.even.specs.Even.{evenCube, rowOf}
 use Rattle.even.proofs.Rows.{first-row, no-row}
+use Rattle.even.proofs.Toward.{usual-whole}
 use Rattle.even_laws.specs.EvenTree.{splitInOrder, evenTree, evenLinks, Even, rowIn, foundAt}
-
--- ---- the root
-usual-whole : Whole (rootOf usualEnds)
-unfolding fits
-usual-whole = whole-admitted usualEnds tt tt tt usual-admitted
 
 -- ---- the links
 even-linked : linkedOf evenLinks 9 ≡ true

@@ -99,7 +99,7 @@ pub fn even_row(point: &[u8]) -> Saved
     ensures { λ r. ⌜ r ≡ evenRowIn (now (point .entry)) ⌝ }
 {
     if point.len() == 24 {
-        let found = even::row_of(read::point_at(point, 0));
+        let found = even::row_toward(read::point_at(point, 0));
         match found {
             Placed::Row(row) => return Saved::Size(row as usize),
             Placed::Nothing => return Saved::Size(64),
