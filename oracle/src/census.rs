@@ -27,6 +27,8 @@ fn name(call: &Call) -> &'static str {
         Call::Equal(_) => "equal",
         Call::UndoSplit => "undo",
         Call::Apply(..) => "apply",
+        Call::EvenRow(_) => "row",
+        Call::NextList(..) => "list",
     }
 }
 

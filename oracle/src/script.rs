@@ -33,6 +33,8 @@ pub enum Call {
     Equal(Vec<u8>),
     UndoSplit,
     Apply(Action, u32),
+    EvenRow(Point),
+    NextList(u8, Vec<u16>),
 }
 
 #[derive(Debug)]
@@ -145,6 +147,11 @@ impl<'a> Reader<'a> {
             14 => Call::Equal(self.record()?),
             17 => Call::UndoSplit,
             22 => Call::Apply(self.action()?, self.u32()?),
+            25 => Call::EvenRow(self.point()?),
+            26 => {
+                let (n, length) = (self.u8()?, self.u8()?);
+                Call::NextList(n, (0..length).map(|_| self.u16()).collect::<Result<_, _>>()?)
+            }
             _ => return Err(BadScript),
         }))
     }
@@ -259,6 +266,16 @@ impl Writer {
                 self.bytes.push(22);
                 self.action(action);
                 self.bytes.extend(window.to_be_bytes());
+            }
+            Call::EvenRow(point) => {
+                self.bytes.push(25);
+                self.point(point);
+            }
+            Call::NextList(n, list) => {
+                self.bytes.extend([26, *n, list.len() as u8]);
+                for node in list {
+                    self.bytes.extend(node.to_be_bytes());
+                }
             }
         }
     }

@@ -8,6 +8,8 @@ ghost use Rattle.host_trainer.specs.Questions.{askedIn, askedAfter};
 ghost use Rattle.host_trainer.specs.Lookups.{lookups, lookupsAfter, replaced, replacedAfter};
 ghost use Rattle.host_trainer.specs.Undone.{undoneIn};
 ghost use Rattle.host_lists.specs.Lists.{candidatesIn, candidatesAfter, rowIn, rowAfter, equalIn};
+ghost use Rattle.host_trees.specs.Lists.{nextListIn, nextListAfter};
+ghost use Rattle.host_trees.specs.Rows.{evenRowIn};
 ghost use Rattle.host_answers.specs.Answers.{answersIn};
 ghost use Rattle.host_sender.specs.Layout.{newIn, newAfter};
 ghost use Rattle.host_sender.specs.Events.{events as eventsOf, senderLeft, repliesLeft};
@@ -157,5 +159,23 @@ pub extern "C" fn knellstone_equal(a: &[u8], b: &[u8]) -> u64
     ensures { λ r. ⌜ r ≡ answerOf (equalIn (loadOf (now (a .entry))) (loadOf (now (b .entry)))) ⌝ }
 {
     let s = host_lists::equal(a, b);
+    answer(s)
+}
+
+// The split list after another among those of at most n splits.
+#[no_mangle]
+pub extern "C" fn knellstone_next_list(n: u32, list: &[u8], out: &mut [u8]) -> u64
+    ensures { λ r. ⌜ (r ≡ answerOf (nextListIn n (now (list .entry)) (now (out .entry)))) × (now (out .exit) ≡ nextListAfter n (now (list .entry)) (now (out .entry))) ⌝ }
+{
+    let s = host_trees::next_list(n, list, out);
+    answer(s)
+}
+
+// The row of the even tree that holds a point; 64 where none does.
+#[no_mangle]
+pub extern "C" fn knellstone_even_row(point: &[u8]) -> u64
+    ensures { λ r. ⌜ r ≡ answerOf (evenRowIn (now (point .entry))) ⌝ }
+{
+    let s = host_trees::even_row(point);
     answer(s)
 }

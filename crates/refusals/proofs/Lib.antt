@@ -9,3 +9,5 @@ pub mod Panels
 pub mod TrainersGive
 pub mod SendersGive
 pub mod AcksGive
+pub mod SmallTrees
+pub mod EvenRows

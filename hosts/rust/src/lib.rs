@@ -39,6 +39,7 @@ impl fmt::Display for Refusal {
             22 => "no rule for this ack",
             23 => "a total that is full",
             24 => "no split to take back",
+            30 => "no list of so many splits that grows a tree",
             _ => "an unknown refusal",
         };
         write!(f, "refused {}: {}", self.0, words)
@@ -182,6 +183,8 @@ pub struct Trainer {
 const RECORD_MOST: usize = 11_076;
 const CANDIDATES_MOST: usize = 4096;
 const GROUP_MOST: usize = 65535;
+const LIST_MOST: usize = 7;
+const EVEN_ROWS: usize = 64;
 
 impl Trainer {
     pub fn start(settings: &Settings) -> Result<Self, Refusal> {
@@ -437,6 +440,23 @@ impl Sender {
 
 fn float(bytes: &[u8]) -> f64 {
     f64::from_bits(u64::from_be_bytes(bytes.try_into().unwrap()))
+}
+
+/// The list of splits after another, among all that grow a tree by at most n splits, n at most 3: shorter ones first, then
+/// by their nodes. The first is the empty list; after the last there is none.
+pub fn next_list(n: u32, list: &[u16]) -> Result<Option<Vec<u16>>, Refusal> {
+    let length = u8::try_from(list.len()).map_err(|_| Refusal(30))?;
+    let bytes: Vec<u8> = [length].into_iter().chain(list.iter().flat_map(|node| node.to_be_bytes())).collect();
+    let out = written(LIST_MOST, |out| raw::next_list(n, &bytes, out))?;
+    let nodes = |b: &[u8]| b.chunks(2).map(|b| u16::from_be_bytes(b.try_into().unwrap())).collect();
+    Ok(out.split_first().map(|(_, b)| nodes(b)))
+}
+
+/// The row of the even tree that holds a point: the root split, then nodes 1 to 8 in order, 64 rows from node 9 on. A host
+/// that keeps 64 actions, one a row, has a tree's lookup without a tree.
+pub fn even_row(point: Point) -> Option<usize> {
+    let row = size(raw::even_row(&point.to_bytes())).expect("a whole point");
+    (row < EVEN_ROWS).then_some(row)
 }
 
 fn counts_bytes(counts: &[u64]) -> Vec<u8> {

@@ -1,6 +1,6 @@
 //! What is excluded is refused by its number, and then nothing has changed.
 
-use knellstone::{Action, Answer, Event, Point, Question, Refusal, RepeatMode, Reply, Sender, Settings, Trainer};
+use knellstone::{even_row, next_list, Action, Answer, Event, Point, Question, Refusal, RepeatMode, Reply, Sender, Settings, Trainer};
 
 fn fresh() -> Trainer {
     Trainer::start(&Settings::default()).unwrap()
@@ -238,4 +238,28 @@ fn panel() {
         "leaves 8 splits 1\n1 334\n2 0\n3 333\n4 0\n5 333\n6 0\n7 0\n8 0\n"
     );
     assert_eq!(split.panel(&[1, 1, 0, 1, 0, 1, 0, 0, 0]), Err(Refusal(4)));
+}
+
+#[test]
+fn every_small_tree_in_turn() {
+    for (n, many) in [(0, 1), (1, 2), (2, 10), (3, 130)] {
+        let mut lists = vec![Vec::new()];
+        while let Some(next) = next_list(n, lists.last().unwrap()).unwrap() {
+            lists.push(next);
+        }
+        assert_eq!(lists.len(), many);
+    }
+    for (n, list) in [(4, &[][..]), (2, &[0, 1, 2]), (3, &[1]), (3, &[0, 4, 4]), (3, &[0, 4, 17]), (3, &[0; 256])] {
+        assert_eq!(next_list(n, list), Err(Refusal(30)), "{n} {list:?}");
+    }
+}
+
+#[test]
+fn rows_of_the_even_tree() {
+    let row = |ack_ewma, send_ewma, rtt_ratio| even_row(Point { ack_ewma, send_ewma, rtt_ratio });
+    assert_eq!(row(0.0, 0.0, 0.0), Some(0));
+    assert_eq!(row(150.0, 300.0, 500.0), Some(28));
+    assert_eq!(row(599.0, 599.0, 999.0), Some(63));
+    assert_eq!(row(600.0, 0.0, 0.0), None);
+    assert_eq!(row(0.0, f64::NAN, 0.0), None);
 }

@@ -1,7 +1,7 @@
 //! The host library answers the stored scripts with the lines that the originals gave (vectors/README.md).
 //! Lines of calls that the library doesn't have (wakes, tallies) are passed over, and of a tree's lines the cubes.
 
-use knellstone::{Action, Event, Point, Question, Refusal, Sender, Trainer};
+use knellstone::{even_row, next_list, Action, Event, Point, Question, Refusal, Sender, Trainer};
 use std::{fs, path::Path};
 
 struct Script<'a> {
@@ -191,6 +191,20 @@ fn call(script: &mut Script, trainer: &mut Trainer, sender: &mut Sender) -> Resu
                 Err(Refusal(3)) => Gives::Passes,
                 Err(r) => Gives::Lines(vec![refused(r)]),
             }
+        }
+        25 => {
+            let row = even_row(script.point()?);
+            Gives::Lines(vec![row.map_or("none".into(), |row| format!("row {row}"))])
+        }
+        26 => {
+            let (n, length) = (script.number(1)? as u32, script.number(1)?);
+            let list = (0..length).map(|_| script.number(2).map(|node| node as u16)).collect::<Result<Vec<_>, _>>()?;
+            let line = match next_list(n, &list) {
+                Ok(Some(next)) => next.iter().fold("next".into(), |line, node| format!("{line} {node}")),
+                Ok(None) => "last".into(),
+                Err(r) => refused(r),
+            };
+            Gives::Lines(vec![line])
         }
         _ => return Err(Bad),
     })

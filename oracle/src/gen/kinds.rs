@@ -6,13 +6,13 @@ use super::{
     author::Author,
     records::unchecked,
     values::{
-        self, bad_action, calm_header, edge_ends, edge_settings, near_action, small_settings, step,
-        valid_action, vary_settings,
+        self, any_float, bad_action, calm_header, edge_ends, edge_float, edge_settings, near_action,
+        small_settings, step, valid_action, vary_settings,
     },
     Dice, KINDS,
 };
 use crate::{
-    plain::{Ack, Phase, Point, Sender, Trainer},
+    plain::{even_tree, next_list, split_lists, Ack, Phase, Point, Sender, Trainer},
     rust::of_settings,
     script::{repeat, Call, Writer},
 };
@@ -409,8 +409,10 @@ pub fn limits(dice: Dice) -> Vec<u8> {
 
 /// A script of another kind that is cut, or goes on with what is no call.
 pub fn cut(mut dice: Dice) -> Vec<u8> {
-    let others: Vec<_> =
-        KINDS.iter().filter(|(name, _)| !["cut", "undo", "ends", "apply"].contains(name)).collect();
+    let others: Vec<_> = KINDS
+        .iter()
+        .filter(|(name, _)| !["cut", "undo", "ends", "apply", "lists", "even"].contains(name))
+        .collect();
     let (_, author) = others[dice.below(others.len())];
     let mut script = author(Dice(dice.next()));
     if dice.one_in(2) {
@@ -593,4 +595,93 @@ pub fn apply(dice: Dice) -> Vec<u8> {
         }
     }
     author.done()
+}
+
+/// Every small tree in turn: from a list on, for some steps or to the last; and lists that are none of them.
+pub fn lists(dice: Dice) -> Vec<u8> {
+    let mut author = Author::small(dice);
+    for _ in 0..author.dice.within(2, 6) {
+        match author.dice.below(6) {
+            0 | 1 => {
+                let n = author.dice.pick(&[0, 1, 2, 3]);
+                let steps = author.dice.pick(&[2, 20, 150]);
+                walk(&mut author, n, Vec::new(), steps);
+            }
+            2 => {
+                let (n, lists) = (author.dice.pick(&[0, 1, 2, 3]), split_lists(3));
+                let list = lists[author.dice.below(lists.len())].clone();
+                walk(&mut author, n, list, 12);
+            }
+            3 | 4 => {
+                let n = author.dice.pick(&[0, 1, 2, 3, 3, 3, 3, 4, 255]);
+                let list = no_list(&mut author.dice);
+                author.call(Call::NextList(n, list));
+            }
+            _ => author.aside(),
+        }
+    }
+    let mut script = author.writer.bytes;
+    if author.dice.one_in(8) {
+        script.extend([26, 3, 2, 0, 0, 0]);
+    }
+    script
+}
+
+/// Each list that is given is asked for the next.
+fn walk(author: &mut Author, n: u8, mut list: Vec<u16>, steps: usize) {
+    for _ in 0..steps {
+        author.call(Call::NextList(n, list.clone()));
+        match next_list(n, &list) {
+            Ok(Some(next)) => list = next,
+            _ => break,
+        }
+    }
+}
+
+/// Mostly none of the lists, by little.
+fn no_list(dice: &mut Dice) -> Vec<u16> {
+    let lists = split_lists(3);
+    let mut list = lists[dice.below(lists.len())].clone();
+    match dice.below(6) {
+        0 => list.push(dice.below(26) as u16),
+        1 => list = (0..dice.within(0, 4)).map(|_| dice.below(18) as u16).collect(),
+        2 => list.resize(dice.pick(&[4, 5, 127, 255]), 1),
+        3 if !list.is_empty() => list[0] = dice.pick(&[0, 1, 9, u16::MAX]),
+        4 if list.len() > 1 => list[1] = dice.pick(&[0, 8, 9, 256]),
+        _ if list.len() > 2 => list[2] = dice.pick(&[0, list[1], 16, 17, 272]),
+        _ => {}
+    }
+    list
+}
+
+/// Rows of the even tree: at the ends and middles of its cubes, beside them, and anywhere.
+pub fn even(dice: Dice) -> Vec<u8> {
+    let mut author = Author::small(dice);
+    let tree = even_tree();
+    for _ in 0..author.dice.within(2, 60) {
+        let cube = tree.nodes[author.dice.below(tree.nodes.len())].cube;
+        let style = author.dice.below(6);
+        let dice = &mut author.dice;
+        let point = std::array::from_fn(|axis| {
+            let (min, max) = (cube.min[axis], cube.max[axis]);
+            let end = dice.pick(&[min, max, (min + max) / 2.0]);
+            match style {
+                0 => min,
+                1 => end,
+                2 => step(end, dice),
+                3 if dice.one_in(3) => any_float(dice),
+                4 if dice.one_in(3) => edge_float(dice),
+                _ => min + (max - min) * dice.unit(),
+            }
+        });
+        author.call(Call::EvenRow(point));
+        if author.dice.one_in(12) {
+            author.aside();
+        }
+    }
+    let mut script = author.writer.bytes;
+    if author.dice.one_in(8) {
+        script.extend(vec![25; author.dice.within(1, 24)]);
+    }
+    script
 }

@@ -24,6 +24,8 @@ pub const KINDS: &[(&str, fn(Dice) -> Vec<u8>)] = &[
     ("undo", kinds::undo),
     ("ends", kinds::ends),
     ("apply", kinds::apply),
+    ("lists", kinds::lists),
+    ("even", kinds::even),
 ];
 
 /// None where there is no such kind.

@@ -1,12 +1,16 @@
 //! Document 01, sentence by sentence, in plain Rust. Nothing here is taken from the originals: the driver
 //! holds the two against each other.
 
+mod even;
+mod lists;
 mod record;
 mod sender;
 mod settings;
 mod trainer;
 mod tree;
 
+pub use even::{even_row, even_tree};
+pub use lists::{next_list, split_lists, tree_of};
 pub use sender::{Ack, Repeat, Sender};
 pub use settings::{Settings, USUAL_ENDS};
 pub use trainer::{Answer, Change, Phase, Trainer};
