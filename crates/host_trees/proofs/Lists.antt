@@ -18,7 +18,8 @@ use Rattle.wire.proofs.Stores.{wrote}
 use Rattle.small_trees.specs.declared.SplitList.{SplitList}
 use Rattle.small_trees.specs.declared.After.{After}
 use Rattle.small_trees.specs.declared.After.the-variants.{Next, Last, Refused}
-use Rattle.small_trees.specs.Calls.{noSplitList, unpacked, nextOf}
+use Rattle.refusal.specs.Numbers.{noSplitList}
+use Rattle.small_trees.specs.Calls.{unpacked, nextOf}
 use Rattle.small_trees.proofs.Tables.{next-above}
 use Rattle.small_trees.proofs.Growing.{growth-short}
 use Rattle.small_trees.proofs.Ways.{refused}

@@ -15,7 +15,8 @@ use Rattle.small_trees.specs.declared.SplitList.{SplitList}
 use Rattle.small_trees.specs.declared.After.{After}
 use Rattle.small_trees.specs.declared.After.the-variants.{Next, Last, Refused}
 use Rattle.small_trees.specs.Lists.{mostListed, upTo, same, isGrowth}
-use Rattle.small_trees.specs.Calls.{noSplitList, among, afterIn, nextOf, listOf}
+use Rattle.refusal.specs.Numbers.{noSplitList}
+use Rattle.small_trees.specs.Calls.{among, afterIn, nextOf, listOf}
 
 -- ---- two answers are the same
 sameAfter : After → After → Bool

@@ -9,7 +9,8 @@ use lib.ListN.{length, getD}
 use Rattle.small_trees.specs.declared.After.{After}
 use Rattle.small_trees.specs.declared.After.the-variants.{Last, Refused}
 use Rattle.small_trees.specs.Lists.{isGrowth}
-use Rattle.small_trees.specs.Calls.{noSplitList, nextOf, listOf}
+use Rattle.refusal.specs.Numbers.{noSplitList}
+use Rattle.small_trees.specs.Calls.{nextOf, listOf}
 use Rattle.small_trees.proofs.Tables.{next-out, next-two, next-three, twoNext, leafNext}
 use Rattle.small_trees.proofs.Growing.{otherwise, growth-short, growth-first, growth-second, growth-third, second-grows, third-grows}
 
