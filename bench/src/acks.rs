@@ -39,9 +39,9 @@ fn theirs<'a>(tree: &'a RuleTree, acks: &[(Time, Time)], windows: &mut [u32]) ->
 
 /// Each window, and the sender that is left.
 fn same(replies: &[u8], sender: &[u8; 108], windows: &[u32], held: &SenderState) {
-    assert_eq!(replies.len(), 5 * windows.len());
-    for (reply, window) in replies.chunks(5).zip(windows) {
-        assert_eq!((reply[0], &reply[1..]), (0, &window.to_be_bytes()[..]));
+    assert_eq!(replies.len(), 6 * windows.len());
+    for (reply, window) in replies.chunks(6).zip(windows) {
+        assert_eq!((reply[0], &reply[1..5]), (0, &window.to_be_bytes()[..]));
     }
     let (shortest, current) = held.round_trips.unwrap();
     let floats = [
@@ -83,7 +83,7 @@ pub fn many(table: &mut Table, tree: &Grown) {
     let moments: Vec<_> = tree.acks.iter().map(|&(sent, at)| (moment(sent), moment(at))).collect();
     let mut fresh = [0; 108];
     size(raw::sender(&[0; 9], &mut fresh));
-    let mut replies = vec![0; 5 * count];
+    let mut replies = vec![0; 6 * count];
     let mut windows = vec![0; count];
 
     let sender = ours(&tree.record, &fresh, &events, &mut replies);

@@ -1,16 +1,19 @@
-//! Lookups of many points in one call, of one point in a call, and the load of a record.
+//! Lookups of many points in one call, of one point in a call, rows of the even tree, and the load of a record.
 
 use std::hint::black_box;
 
 use flowforge::{
     ccas::remy::{action::Action as RustAction, point::Point as RustPoint, rule_tree::RuleTree, RemyPolicy},
     quantities::seconds,
+    trainers::remy::RemyTrainer,
 };
 
 use crate::{
     clock::{alternate, Times},
-    plain::Point,
-    raw, size,
+    plain::{even_tree, Action, Point},
+    raw,
+    rust::{grow, of_settings},
+    size,
     table::{thousands, Table},
     trees::Grown,
 };
@@ -92,6 +95,45 @@ pub fn alone(table: &mut Table, tree: &Grown) {
     let name = format!("lookup, {}, one point a call", tree.name);
     let note = "our call loads and tests the record; the Rust has its tree at hand";
     table.timed(&name, "a point", &times, note);
+}
+
+/// The row of the even tree that holds a point, without a tree, beside the originals' lookup in theirs.
+pub fn even(table: &mut Table) {
+    let settings = of_settings(&RemyTrainer::default());
+    let mut tree = even_tree();
+    for row in 0..64 {
+        let increment = row as i32;
+        tree.set_action(9 + row, Action { multiplier: 1.0, increment, delay: 0.001 });
+    }
+    let original = grow(&settings, &tree);
+    let part = |i: usize, step: f64| (i as f64 * step).fract();
+    let points: Vec<Point> = (0..POINTS)
+        .map(|i| [600.0 * part(i, 0.618), 600.0 * part(i, 0.414), 1000.0 * part(i, 0.732)])
+        .collect();
+    let asked = asked(&points);
+    let mut rows = vec![0; POINTS];
+    let mut actions = vec![None; POINTS];
+    let ours = |rows: &mut [u64]| {
+        for (point, row) in asked.bytes.chunks(24).zip(rows) {
+            *row = raw::even_row(black_box(point));
+        }
+    };
+    ours(&mut rows);
+    theirs(&original, &asked.points, &mut actions);
+    let found = |action: &Option<RustAction>| action.as_ref().map_or(64, |a| a.window_increment as u64);
+    assert!(rows.iter().copied().eq(actions.iter().map(found)));
+    let times = alternate(
+        table.repeats,
+        POINTS,
+        || ours(&mut rows),
+        || theirs(&original, &asked.points, &mut actions),
+    );
+    table.timed(
+        "row of the even tree, one point a call",
+        "a point",
+        &times,
+        "the Rust has its grown tree at hand",
+    );
 }
 
 /// Loading is a lookup of no point, the test for 10 what a question costs beyond it, and a save what a list of no

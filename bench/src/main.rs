@@ -45,6 +45,7 @@ fn main() {
         acks::many(&mut table, tree);
     }
     lookups::alone(&mut table, &trees[0]);
+    lookups::even(&mut table);
     lookups::load(&mut table, &trees[0]);
     lists::candidates(&mut table);
     lists::equality(&mut table, &trees[0]);

@@ -55,8 +55,8 @@ fn held(make: impl FnOnce() -> RuleTree) -> (RuleTree, usize) {
     (tree, LIVE.load(Relaxed) + size_of::<RuleTree>())
 }
 
-/// 513 nodes of 32 bytes, the number of splits, which takes 8 with its padding, and three ends of 8.
-const OURS: usize = 513 * 32 + 8 + 24;
+/// 513 nodes of 24 bytes, the number of splits, which takes 8 with its padding, and three ends of 8.
+const OURS: usize = 513 * 24 + 8 + 24;
 
 const NODE: usize = size_of::<RuleTreeNode>();
 const NUMBER: usize = size_of::<usize>();
@@ -79,7 +79,7 @@ pub fn rows(table: &mut Table, tree: &Grown) {
         rooms / 64,
         thousands(fitted),
         thousands(OURS),
-        thousands(513 * 32 + 2 + 24),
+        thousands(513 * 24 + 2 + 24),
     );
     table.bytes("memory of a tree of 64 splits", OURS, full, &note);
     let (_, one) = held(|| RuleTree::default(to_action(&tree.trainer.settings.default)));

@@ -28,7 +28,9 @@ extern "C" {
 #define KNELLSTONE_MODE 9            /* 0 off, 1 always, 2 lo..=hi; u32 lo, u32 hi */
 #define KNELLSTONE_SENDER 108        /* docs/HOSTS.md has its layout */
 #define KNELLSTONE_EVENT 22          /* 0 ack, 1 send, 2 tick; sent 8, received 8; draw flag, u32 draw */
-#define KNELLSTONE_REPLY 5           /* refusal's number or 0, u32 window */
+#define KNELLSTONE_REPLY 6           /* refusal's number or 0, u32 window, 1 where an ack's window was clipped */
+#define KNELLSTONE_LIST_MOST 7       /* a split list: its length in one byte, then 2 bytes a node, at most three */
+#define KNELLSTONE_NO_ROW 64         /* the answer where no row of the even tree holds the point */
 
 /* The number of the refusal, or 0. */
 static inline uint32_t knellstone_refusal(uint64_t answer) {
@@ -91,8 +93,16 @@ uint64_t knellstone_sender(const uint8_t *mode, size_t mode_len, uint8_t *sender
 uint64_t knellstone_events(const uint8_t *record, size_t record_len, uint8_t *sender, size_t sender_len,
                            const uint8_t *events, size_t events_len, uint8_t *replies, size_t replies_len);
 
-/* The panel's lines of a record followed by its counts, 8 bytes each. 6, 7, 8, 4, 9 */
+/* The panel's lines of a record followed by its counts, 8 bytes each; the shares add up to 1000. 6, 7, 8, 4, 9 */
 uint64_t knellstone_panel(const uint8_t *input, size_t input_len, uint8_t *out, size_t out_len);
+
+/* The split list after another among those of at most n splits, n at most 3: shorter first, then by their nodes. It is
+ * read and written alike; the empty list, one byte 0, is the first. 0 where the list was the last. 6 where the bytes are
+ * not those that the length says, 30, 9 */
+uint64_t knellstone_next_list(uint32_t n, const uint8_t *list, size_t list_len, uint8_t *next, size_t next_len);
+
+/* The row of the even tree that holds a point, 0 to 63, or KNELLSTONE_NO_ROW. 6 where the point has not 24 bytes */
+uint64_t knellstone_even_row(const uint8_t *point, size_t point_len);
 
 #ifdef __cplusplus
 }

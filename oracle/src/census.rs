@@ -26,6 +26,9 @@ fn name(call: &Call) -> &'static str {
         Call::Load(_) => "load",
         Call::Equal(_) => "equal",
         Call::UndoSplit => "undo",
+        Call::Apply(..) => "apply",
+        Call::EvenRow(_) => "row",
+        Call::NextList(..) => "list",
     }
 }
 

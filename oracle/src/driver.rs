@@ -11,8 +11,8 @@ use flowforge::{
 };
 
 use crate::{
-    plain::{bits, Action, Answer, Phase, Refused, Sender, Trainer, Tree},
-    rust::{disagree, grow, of_action, same_sender, same_tree, shown, Originals, Shown},
+    plain::{bits, even_row, next_list, tree_of, Action, Answer, Phase, Refused, Sender, Trainer, Tree},
+    rust::{self, disagree, grow, of_action, same_sender, same_tree, shown, to_action, Originals, Shown},
     script::{repeat, Call, Reader},
 };
 
@@ -405,6 +405,30 @@ impl Player {
                 let original = grow(&self.trainer.settings, &tree);
                 same_tree("the tree with its newest split taken back", &original, &tree);
                 tree_lines(&original, &tree)
+            }
+            Call::Apply(action, window) => {
+                let plain = action.apply_to(window);
+                // An original's sum is an i32, which a wider one overflows.
+                let original = match i32::try_from(action.window_sum(window)) {
+                    Ok(_) => to_action(&action).apply_to(window),
+                    Err(_) => plain,
+                };
+                let applied = agreed("the window rule", Ok(original), Ok(plain))?;
+                format!("applied {applied} {}", u8::from(action.clips(window)))
+            }
+            Call::EvenRow(point) => {
+                let row = agreed("a row", Ok(self.originals.even_row(&point)), Ok(even_row(&point)))?;
+                row.map_or("none".to_owned(), |row| format!("row {row}"))
+            }
+            Call::NextList(n, list) => {
+                let next = agreed("the next list", rust::next_list(n, &list), next_list(n, &list))?;
+                next.map_or("last".to_owned(), |next| {
+                    let settings = &self.trainer.settings;
+                    let tree =
+                        tree_of(settings.ends, settings.default, &next).expect("a list that grows a tree");
+                    same_tree("a small tree", &grow(settings, &tree), &tree);
+                    next.iter().fold("next".to_owned(), |line, node| format!("{line} {node}"))
+                })
             }
             Call::Equal(record) => {
                 let other = Trainer::load(&record)?;

@@ -8,7 +8,7 @@ use std::{
     cell::{Cell, RefCell},
     fmt,
     rc::Rc,
-    sync::atomic::Ordering,
+    sync::{atomic::Ordering, OnceLock},
 };
 
 use flowforge::{
@@ -154,6 +154,42 @@ pub fn grow(settings: &Settings, plain: &Tree) -> RuleTree {
         }
     }
     tree
+}
+
+/// A tree that the originals grow by a list of splits; none where one of them names no leaf.
+fn grown_by(list: &[u16]) -> Option<RuleTree> {
+    let mut tree = RuleTree::default(RemyTrainer::default().default_action);
+    for node in list {
+        let node = usize::from(*node);
+        if !matches!(tree.field_nodes().get(node), Some(RuleTreeNode::Leaf { .. })) {
+            return None;
+        }
+        leaf(&mut tree, node).split();
+    }
+    Some(tree)
+}
+
+/// The split lists by a second way: of all lists of at most three numbers below 17, in order, those by which the
+/// originals grow a tree.
+fn counted_lists() -> &'static [Vec<u16>] {
+    static LISTS: OnceLock<Vec<Vec<u16>>> = OnceLock::new();
+    LISTS.get_or_init(|| {
+        let of = |length: u32| {
+            let digit = move |i: u32, place: u32| (i / 17u32.pow(length - 1 - place) % 17) as u16;
+            (0..17u32.pow(length)).map(move |i| (0..length).map(|place| digit(i, place)).collect())
+        };
+        (0..=3).flat_map(of).filter(|list: &Vec<u16>| grown_by(list).is_some()).collect()
+    })
+}
+
+/// The list after one of at most n splits; none after the last.
+pub fn next_list(n: u8, list: &[u16]) -> Result<Option<Vec<u16>>, Refused> {
+    let short = |list: &&Vec<u16>| list.len() <= usize::from(n);
+    let mut lists = counted_lists().iter().filter(short).skip_while(|one| *one != list);
+    if n > 3 || lists.next().is_none() {
+        return Err(30);
+    }
+    Ok(lists.next().cloned())
 }
 
 /// What the originals have of a parent is its children alone.
@@ -341,6 +377,17 @@ impl Originals {
         let handle = leaf(&mut tree, node);
         let found = handle.augmented_tree(to_action(action)).action(&to_point(point));
         found.as_ref().map(of_action)
+    }
+
+    /// The row of the even tree that holds a point: each leaf's action tells its row.
+    pub fn even_row(&mut self, point: &Point) -> Option<usize> {
+        self.note_zero(point);
+        let splits: Vec<u16> = (0..9).collect();
+        let mut tree = grown_by(&splits).expect("a leaf at each split");
+        for row in 0..64 {
+            leaf(&mut tree, 9 + row).action().window_increment = row as i32;
+        }
+        tree.action(&to_point(point)).map(|action| action.window_increment as usize)
     }
 
     /// One lookup through the counting tree, whose counts are those lent.

@@ -32,6 +32,9 @@ pub enum Call {
     Load(Vec<u8>),
     Equal(Vec<u8>),
     UndoSplit,
+    Apply(Action, u32),
+    EvenRow(Point),
+    NextList(u8, Vec<u16>),
 }
 
 #[derive(Debug)]
@@ -143,6 +146,12 @@ impl<'a> Reader<'a> {
             13 => Call::Load(self.record()?),
             14 => Call::Equal(self.record()?),
             17 => Call::UndoSplit,
+            22 => Call::Apply(self.action()?, self.u32()?),
+            25 => Call::EvenRow(self.point()?),
+            26 => {
+                let (n, length) = (self.u8()?, self.u8()?);
+                Call::NextList(n, (0..length).map(|_| self.u16()).collect::<Result<_, _>>()?)
+            }
             _ => return Err(BadScript),
         }))
     }
@@ -253,6 +262,21 @@ impl Writer {
                 self.record(record);
             }
             Call::UndoSplit => self.bytes.push(17),
+            Call::Apply(action, window) => {
+                self.bytes.push(22);
+                self.action(action);
+                self.bytes.extend(window.to_be_bytes());
+            }
+            Call::EvenRow(point) => {
+                self.bytes.push(25);
+                self.point(point);
+            }
+            Call::NextList(n, list) => {
+                self.bytes.extend([26, *n, list.len() as u8]);
+                for node in list {
+                    self.bytes.extend(node.to_be_bytes());
+                }
+            }
         }
     }
 }

@@ -14,8 +14,8 @@ use crate::{
     driver::play,
     gen,
     plain::{
-        admitted, bits, Ack, Action, Answer, Cube, Phase, Point, Repeat, Sender, Settings, Trainer, Tree,
-        USUAL_ENDS,
+        admitted, bits, next_list, split_lists, Ack, Action, Answer, Cube, Phase, Point, Repeat, Sender,
+        Settings, Trainer, Tree, USUAL_ENDS,
     },
     rust::{as_given, grow, improvements, leaf, shown, to_action, Shown},
     script::{Call, Header, Writer},
@@ -53,6 +53,8 @@ pub fn run() -> i32 {
         scores,
         sizes,
         undone,
+        small_trees,
+        even_rows,
         versions,
         ends,
         accepted,
@@ -212,6 +214,22 @@ fn actions(t: &mut Table) {
         if fits {
             t.row(&format!("{name}: original"), to_action(&rule).apply_to(window), want);
         }
+    }
+    for (window, multiplier, increment, clipped) in [
+        (999_999, 1.0, 1, false),
+        (1_000_000, 1.0, 1, true),
+        (5, 1.0, -5, false),
+        (5, 1.0, -6, true),
+        (1, -0.9, 0, false),
+        (5, f64::NAN, 7, true),
+        (0, f64::INFINITY, 7, true),
+        (1, 2_147_483_647.5, -2_147_000_000, false),
+        (1, 2_147_483_648.0, -2_147_000_000, true),
+        (1, -2_147_483_648.5, i32::MAX, true),
+        (1, -2_147_483_647.5, i32::MAX, false),
+    ] {
+        let rule = action(multiplier, increment, 0.0);
+        t.row(&format!("window {window}, {multiplier}, {increment}: clipped"), rule.clips(window), clipped);
     }
     for (rule, valid) in [
         (action(-0.0, 1_000_000, -0.0), true),
@@ -709,6 +727,68 @@ fn undone(t: &mut Table) {
     t.row("as before it", twice.tree.undo_split().unwrap().equal(&grown(&[0]).tree), true);
     let calls = [Call::Load(twice.record()), Call::UndoSplit, Call::PrintTree];
     t.row("the trainer stays", nodes_of(&lines(&s, &calls)).matches(" parent ").count(), 3);
+}
+
+fn small_trees(t: &mut Table) {
+    let s = few(3, 1, false);
+    for (n, many) in [(0, 1), (1, 2), (2, 10), (3, 130)] {
+        let mut calls = vec![Call::NextList(n, Vec::new())];
+        let mut list = Vec::new();
+        while let Ok(Some(next)) = next_list(n, &list) {
+            calls.push(Call::NextList(n, next.clone()));
+            list = next;
+        }
+        let lines = answers(&s, &calls);
+        t.row(&format!("lists of at most {n}"), lines.split("; ").count(), many);
+        t.row(&format!("the last of at most {n}"), lines.split("; ").last().unwrap(), "last");
+    }
+    let loads = |list: &&Vec<u16>| {
+        let nodes: Vec<usize> = list.iter().map(|node| usize::from(*node)).collect();
+        Trainer::load(&grown(&nodes).record()).is_ok()
+    };
+    t.row("small trees that load", split_lists(3).iter().filter(loads).count(), 130);
+    for (n, list, want) in [
+        (3, &[][..], "next 0"),
+        (3, &[0], "next 0 1"),
+        (3, &[0, 8], "next 0 1 2"),
+        (3, &[0, 4, 3], "next 0 4 5"),
+        (3, &[0, 4, 16], "next 0 5 1"),
+        (3, &[0, 8, 16], "last"),
+        (2, &[0, 8], "last"),
+        (4, &[], "refused 30"),
+        (2, &[0, 1, 2], "refused 30"),
+        (3, &[1], "refused 30"),
+        (3, &[0, 0], "refused 30"),
+        (3, &[0, 9], "refused 30"),
+        (3, &[0, 4, 4], "refused 30"),
+        (3, &[0, 4, 17], "refused 30"),
+        (3, &[0, 1, 2, 3], "refused 30"),
+    ] {
+        t.row(&format!("{n} {list:?}"), answers(&s, &[Call::NextList(n, list.to_vec())]), want);
+    }
+}
+
+fn even_rows(t: &mut Table) {
+    let row = |point| answers(&few(3, 1, false), &[Call::EvenRow(point)]);
+    for (point, want) in [
+        ([0.0, 0.0, 0.0], "row 0"),
+        ([-0.0, -0.0, -0.0], "row 0"),
+        ([0.0, 0.0, 250.0], "row 1"),
+        ([0.0, 150.0, 0.0], "row 2"),
+        ([150.0, 0.0, 0.0], "row 4"),
+        ([150.0f64.next_down(), 0.0, 0.0], "row 0"),
+        ([0.0, 0.0, 500.0], "row 8"),
+        ([0.0, 300.0, 0.0], "row 16"),
+        ([300.0, 0.0, 0.0], "row 32"),
+        ([600.0f64.next_down(), 600.0f64.next_down(), 1000.0f64.next_down()], "row 63"),
+        ([600.0, 0.0, 0.0], "none"),
+        ([0.0, 600.0, 0.0], "none"),
+        ([0.0, 0.0, 1000.0], "none"),
+        ([0.0, 0.0, -5e-324], "none"),
+        ([0.0, f64::NAN, 0.0], "none"),
+    ] {
+        t.row(&format!("the row of {point:?}"), row(point), want);
+    }
 }
 
 fn versions(t: &mut Table) {

@@ -18,7 +18,11 @@ pub fn tick(v: Sender) -> Held
 {
     let mut s = v;
     let window = sender_face::tick(&mut s);
-    Held { sender: s, window }
+    Held {
+        sender: s,
+        window,
+        clipped: false,
+    }
 }
 
 pub fn send(v: Sender, at: f64) -> Lent

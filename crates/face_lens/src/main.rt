@@ -148,9 +148,12 @@ fn fields(came: Sender, lent: Sender, by_value: Sender, same: bool) {
 
 fn answered(answer: Answer) {
     match answer {
-        Answer::Window(w) => {
+        Answer::Window(w, clipped) => {
             say(b"window ");
             number(w);
+            if clipped {
+                say(b", clipped");
+            }
         }
         Answer::Refused(k) => {
             say(b"refused ");
@@ -161,8 +164,8 @@ fn answered(answer: Answer) {
 
 fn alike(answer: Answer, reply: Reply) -> bool {
     match answer {
-        Answer::Window(w) => match reply {
-            Reply::Taken(h) => h.window == w,
+        Answer::Window(w, clipped) => match reply {
+            Reply::Taken(h) => both(h.window == w, h.clipped == clipped),
             Reply::Refused(_) => false,
         },
         Answer::Refused(k) => match reply {
@@ -192,13 +195,17 @@ fn told(title: &[u8], came: Sender, lent: Lent, reply: Reply) -> Sender {
     left
 }
 
-// An ack over a tree of one leaf, whose action adds 10 to the window and waits 0.25 s.
-fn ack(title: &[u8], s: Sender, sent: f64, received: f64) -> Sender {
-    let action = Action::new(1.0, 10, 0.25);
+// An ack over a tree of one leaf, whose action adds to the window and waits 0.25 s.
+fn ack_by(title: &[u8], s: Sender, increment: i32, sent: f64, received: f64) -> Sender {
+    let action = Action::new(1.0, increment, 0.25);
     let tree = RuleTree::new(Point::usual_ends(), action).tree;
     let lent = lent::ack(s, tree, sent, received, Draw::Absent);
     let reply = s.ack_received(tree, sent, received, Draw::Absent);
     told(title, s, lent, reply)
+}
+
+fn ack(title: &[u8], s: Sender, sent: f64, received: f64) -> Sender {
+    ack_by(title, s, 10, sent, received)
 }
 
 fn send(title: &[u8], s: Sender, at: f64) -> Sender {
@@ -242,5 +249,16 @@ fn main() {
     let g = ack(b"ack at 3 s of what was sent at 3 s: ", f, 3.0, 3.0);
     let h = ack(b"ack at 3 s of what was sent at 2 s: ", g, 2.0, 3.0);
     let i = send(b"send just below 0: ", h, -0.000001);
-    tick(b"tick: ", i);
+    let j = tick(b"tick: ", i);
+    let k = ack(b"ack at 4 s, by the repeat: ", j, 3.0, 4.0);
+    let l = ack_by(b"ack at 5 s, 41 less: ", k, -41, 4.0, 5.0);
+    let m = ack(b"ack at 6 s, 41 less by the repeat: ", l, 5.0, 6.0);
+    let n = ack_by(b"ack at 7 s, 999,999 more: ", m, 999999, 6.0, 7.0);
+    let o = send(b"send at 7 s: ", n, 7.0);
+    ack(
+        b"ack at 8 s, 999,999 more by the repeat, while the send stands: ",
+        o,
+        7.0,
+        8.0,
+    );
 }

@@ -8,11 +8,12 @@ ghost use Rattle.host_trainer.specs.Questions.{askedIn, askedAfter};
 ghost use Rattle.host_trainer.specs.Lookups.{lookups, lookupsAfter, replaced, replacedAfter};
 ghost use Rattle.host_trainer.specs.Undone.{undoneIn};
 ghost use Rattle.host_lists.specs.Lists.{candidatesIn, candidatesAfter, rowIn, rowAfter, equalIn};
+ghost use Rattle.host_trees.specs.Lists.{nextListIn, nextListAfter};
+ghost use Rattle.host_trees.specs.Rows.{evenRowIn};
 ghost use Rattle.host_answers.specs.Answers.{answersIn};
 ghost use Rattle.host_sender.specs.Layout.{newIn, newAfter};
 ghost use Rattle.host_sender.specs.Events.{events as eventsOf, senderLeft, repliesLeft};
-ghost use Rattle.host.specs.Answers.{answerOf, linesOf};
-use panel_lines::Shown;
+ghost use Rattle.host.specs.Answers.{answerOf};
 use record::Saved;
 
 fn answer(s: Saved) -> u64
@@ -21,15 +22,6 @@ fn answer(s: Saved) -> u64
     match s {
         Saved::Size(n) => n as u64,
         Saved::Refused(k) => 9223372036854775808 + (k as u64),
-    }
-}
-
-fn lines(s: Shown) -> u64
-    ensures { λ r. ⌜ r ≡ linesOf s ⌝ }
-{
-    match s {
-        Shown::Size(n) => n as u64,
-        Shown::Refused(k) => 9223372036854775808 + (k as u64),
     }
 }
 
@@ -128,10 +120,10 @@ pub extern "C" fn knellstone_events(
 // The panel's lines of a record followed by its counts.
 #[no_mangle]
 pub extern "C" fn knellstone_panel(input: &[u8], out: &mut [u8]) -> u64
-    ensures { λ r. ⌜ (r ≡ linesOf (panelOf (now (input .entry)) (now (out .entry)))) × (now (out .exit) ≡ outAfter (now (input .entry)) (now (out .entry)) (panelOf (now (input .entry)) (now (out .entry)))) ⌝ }
+    ensures { λ r. ⌜ (r ≡ answerOf (panelOf (now (input .entry)) (now (out .entry)))) × (now (out .exit) ≡ outAfter (now (input .entry)) (now (out .entry)) (panelOf (now (input .entry)) (now (out .entry)))) ⌝ }
 {
     let s = panel_lines::panel(input, out);
-    lines(s)
+    answer(s)
 }
 
 // Answers in turn, in one call, and writes the record after the last; all are taken, or none.
@@ -167,5 +159,23 @@ pub extern "C" fn knellstone_equal(a: &[u8], b: &[u8]) -> u64
     ensures { λ r. ⌜ r ≡ answerOf (equalIn (loadOf (now (a .entry))) (loadOf (now (b .entry)))) ⌝ }
 {
     let s = host_lists::equal(a, b);
+    answer(s)
+}
+
+// The split list after another among those of at most n splits.
+#[no_mangle]
+pub extern "C" fn knellstone_next_list(n: u32, list: &[u8], out: &mut [u8]) -> u64
+    ensures { λ r. ⌜ (r ≡ answerOf (nextListIn n (now (list .entry)) (now (out .entry)))) × (now (out .exit) ≡ nextListAfter n (now (list .entry)) (now (out .entry))) ⌝ }
+{
+    let s = host_trees::next_list(n, list, out);
+    answer(s)
+}
+
+// The row of the even tree that holds a point; 64 where none does.
+#[no_mangle]
+pub extern "C" fn knellstone_even_row(point: &[u8]) -> u64
+    ensures { λ r. ⌜ r ≡ answerOf (evenRowIn (now (point .entry))) ⌝ }
+{
+    let s = host_trees::even_row(point);
     answer(s)
 }

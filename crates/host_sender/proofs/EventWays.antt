@@ -34,33 +34,33 @@ module _ (a b c : ℕ) where
     unfolding eventsFit
     fit-cut n = rw (eq-eqb a 108 e, ne-eqb (b % 22) 0 n)
 
-    pub fit-whole : b % 22 ≡ 0 → 5 * (b / 22) ≤ c → saved.Size (5 * (b / 22)) ≡ eventsFit a b c
+    pub fit-whole : b % 22 ≡ 0 → 6 * (b / 22) ≤ c → saved.Size (6 * (b / 22)) ≡ eventsFit a b c
     unfolding eventsFit
-    fit-whole f l = rw (eq-eqb a 108 e, eq-eqb (b % 22) 0 f, le-leb (5 * (b / 22)) c l)
+    fit-whole f l = rw (eq-eqb a 108 e, eq-eqb (b % 22) 0 f, le-leb (6 * (b / 22)) c l)
 
-    pub fit-short : b % 22 ≡ 0 → c < 5 * (b / 22) → saved.Refused 9 ≡ eventsFit a b c
+    pub fit-short : b % 22 ≡ 0 → c < 6 * (b / 22) → saved.Refused 9 ≡ eventsFit a b c
     unfolding eventsFit
-    fit-short f l = rw (eq-eqb a 108 e, eq-eqb (b % 22) 0 f, lt-leb (5 * (b / 22)) c l)
+    fit-short f l = rw (eq-eqb a 108 e, eq-eqb (b % 22) 0 f, lt-leb (6 * (b / 22)) c l)
 
 -- what a size tells of the lengths
 pub record Fit (a b c n : ℕ) : Type 0 where
   pub whole : a ≡ 108
-  pub room : 5 * (b / 22) ≤ c
-  pub size : n ≡ 5 * (b / 22)
+  pub room : 6 * (b / 22) ≤ c
+  pub size : n ≡ 6 * (b / 22)
 
 no-size : (k n : ℕ) → saved.Refused k ≡ saved.Size n → ⊥
 no-size k n e = let z : _≡_ {A = ℕ} 0 1 = cc in omega arith
 
 pub fit-told : (a b c n : ℕ) → eventsFit a b c ≡ saved.Size n → Fit a b c n
 unfolding eventsFit
-fit-told a b c n = by (eqb a 108) (eqb (b % 22) 0) (leb (5 * (b / 22)) c) refl refl
+fit-told a b c n = by (eqb a 108) (eqb (b % 22) 0) (leb (6 * (b / 22)) c) refl refl
   where
     same : (k : ℕ) → saved.Size k ≡ saved.Size n → n ≡ k
     same k e = cc
 
-    by : (x y z : Bool) → eqb a 108 ≡ x → leb (5 * (b / 22)) c ≡ z
-        → cond x (cond y (cond z (saved.Size (5 * (b / 22))) (saved.Refused 9)) (saved.Refused 6)) (saved.Refused 6) ≡ saved.Size n → Fit a b c n
-    by true true true p r e = record { whole = eqb-true a 108 p; room = leb-true (5 * (b / 22)) c r; size = same (5 * (b / 22)) e }
+    by : (x y z : Bool) → eqb a 108 ≡ x → leb (6 * (b / 22)) c ≡ z
+        → cond x (cond y (cond z (saved.Size (6 * (b / 22))) (saved.Refused 9)) (saved.Refused 6)) (saved.Refused 6) ≡ saved.Size n → Fit a b c n
+    by true true true p r e = record { whole = eqb-true a 108 p; room = leb-true (6 * (b / 22)) c r; size = same (6 * (b / 22)) e }
     by true true false p r e = absurd (no-size 9 n e)
     by true false z p r e = absurd (no-size 6 n e)
     by false y z p r e = absurd (no-size 6 n e)

@@ -12,7 +12,7 @@ use lib.ListN.{length, getD, take, drop, set, length-append}
 use lib.Seq.{sets, take-take, drop-drop, getD-take, getD-drop}
 use Rattle.rule_tree.specs.declared.RuleTree.{RuleTree}
 use Rattle.rule_tree.proofs.Ways.{via-true, via-false}
-use Rattle.wire.specs.Bytes.{bytesOf, valueFrom, numberAt}
+use Rattle.wire.specs.Bytes.{bytesOf, valueFrom, numberAt, flagByte}
 use Rattle.wire.specs.Fields.{floatAt, flagAt}
 use Rattle.wire.proofs.Bytes.{bytes-count}
 use Rattle.wire.proofs.Stores.{wrote}
@@ -26,7 +26,7 @@ use Rattle.sender.specs.declared.Reply.the-variants as reply
 use Rattle.sender.specs.SenderCall.{on}
 use Rattle.sender.specs.Sender.{repliedTo, leftBy}
 use Rattle.host_sender.specs.Events.{drawAt, eventAt, eventOn, senderAfter, replyBytes, repliesBytes}
-use Rattle.host_sender.specs.Parts.{codeOf, shownBy}
+use Rattle.host_sender.specs.Parts.{codeOf, shownBy, clippedBy}
 
 -- ---- a draw
 module _ (bytes : List ℕ) (at : ℕ) {b : Bool} (e : b ≡ flagAt bytes at) where
@@ -84,19 +84,23 @@ event-part l at m e =
     event-with (take m (drop at l)) 0 ∙ (λ j. eventWith (p j) (a j) (b j) (q j) (d j)) ∙ sym (event-with l at)
 
 -- ---- replies
-pub reply-parts : (r : Reply) → codeOf r ∷ bytesOf 4 (shownBy r) ≡ replyBytes r
-unfolding codeOf shownBy replyBytes
+pub reply-parts : (r : Reply) → codeOf r ∷ (bytesOf 4 (shownBy r) ++ (flagByte (clippedBy r) ∷ [])) ≡ replyBytes r
+unfolding codeOf shownBy clippedBy replyBytes
 reply-parts (reply.Taken h) = refl
 reply-parts (reply.Refused k) = refl
 
-reply-count : (r : Reply) → length (replyBytes r) ≡ 5
-reply-count r = ap length (sym (reply-parts r)) ∙ ap suc (bytes-count 4 (shownBy r))
+reply-count : (r : Reply) → length (replyBytes r) ≡ 6
+reply-count r =
+    ap length (sym (reply-parts r)) ∙ ap suc (length-append (bytesOf 4 (shownBy r)) (flagByte (clippedBy r) ∷ []))
+    ∙ ap (λ (n : ℕ). suc (n + 1)) (bytes-count 4 (shownBy r))
 
-pub reply-written : (l : List ℕ) (at : ℕ) (r : Reply) {code window : ℕ} {o : List ℕ} → code ≡ codeOf r → window ≡ shownBy r
-    → o ≡ sets (set l at code) (at + 1) (bytesOf 4 window) → o ≡ sets l at (replyBytes r)
-reply-written l at r {code} {window} e f q =
-    wrote l (set l at code) at 1 (code ∷ []) (bytesOf 4 window) q refl refl
-    ∙ (λ j. sets l at (e j ∷ bytesOf 4 (f j))) ∙ ap (sets l at) (reply-parts r)
+pub reply-written : (l : List ℕ) (at : ℕ) (r : Reply) {code window flag : ℕ} {o p : List ℕ} → code ≡ codeOf r → window ≡ shownBy r
+    → flag ≡ flagByte (clippedBy r) → o ≡ sets (set l at code) (at + 1) (bytesOf 4 window) → p ≡ set o (at + 5) flag
+    → p ≡ sets l at (replyBytes r)
+reply-written l at r {code} {window} {flag} {o} e f g q w =
+    wrote l o at 5 (code ∷ bytesOf 4 window) (flag ∷ []) w
+    (wrote l (set l at code) at 1 (code ∷ []) (bytesOf 4 window) q refl refl) (ap suc (bytes-count 4 window))
+    ∙ (λ j. sets l at (e j ∷ (bytesOf 4 (f j) ++ (g j ∷ [])))) ∙ ap (sets l at) (reply-parts r)
 
 -- ---- the loop
 module _ (t : RuleTree) (s : Sender) (list : List ℕ) where
@@ -108,7 +112,7 @@ module _ (t : RuleTree) (s : Sender) (list : List ℕ) where
   unfolding repliesBytes
   none-put out = refl
 
-  pub replies-count : (n : ℕ) → length (repliesBytes t s list n) ≡ 5 * n
+  pub replies-count : (n : ℕ) → length (repliesBytes t s list n) ≡ 6 * n
   unfolding repliesBytes
   replies-count zero = refl
   replies-count (suc n) =
@@ -125,12 +129,12 @@ module _ (t : RuleTree) (s : Sender) (list : List ℕ) where
       unfolding senderAfter
       sender-turn f = rw add-one (f ∙ (λ j. leftBy (p j) (event-is j)))
 
-      pub replies-turn : (out : List ℕ) {o w : List ℕ} → o ≡ sets out 0 (repliesBytes t s list i) → w ≡ sets o (5 * i) (replyBytes r)
+      pub replies-turn : (out : List ℕ) {o w : List ℕ} → o ≡ sets out 0 (repliesBytes t s list i) → w ≡ sets o (6 * i) (replyBytes r)
           → w ≡ sets out 0 (repliesBytes t s list (i + 1))
       unfolding repliesBytes
       replies-turn out {o} a b =
-          rw add-one (wrote out o 0 (5 * i) (repliesBytes t s list i) (replyBytes r)
-          (b ∙ ap (λ (k : ℕ). sets o k (replyBytes r)) (let z : 5 * i ≡ 0 + 5 * i = omega arith in z)) a (replies-count i)
+          rw add-one (wrote out o 0 (6 * i) (repliesBytes t s list i) (replyBytes r)
+          (b ∙ ap (λ (k : ℕ). sets o k (replyBytes r)) (let z : 6 * i ≡ 0 + 6 * i = omega arith in z)) a (replies-count i)
           ∙ ap (λ (z : Reply). sets out 0 (repliesBytes t s list i ++ replyBytes z)) event-is)
 
   pub sender-all : (i n : ℕ) {u : Sender} → i ≤ n → n ≤ i → u ≡ senderAfter t s list i → u ≡ senderAfter t s list n

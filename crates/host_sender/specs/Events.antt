@@ -7,7 +7,7 @@ use lib.Dec.{eqb, leb}
 use Rattle.refusal.specs.Numbers.{badLength, shortBuffer}
 use Rattle.rule_tree.specs.declared.RuleTree.{RuleTree}
 use Rattle.trainer.specs.declared.Answered.{Answered}
-use Rattle.wire.specs.Bytes.{bytesOf, numberAt}
+use Rattle.wire.specs.Bytes.{bytesOf, numberAt, flagByte}
 use Rattle.wire.specs.Fields.{floatAt}
 use Rattle.record.specs.Calls.{loadOf}
 use Rattle.record.specs.declared.Saved.{Saved}
@@ -42,10 +42,11 @@ senderAfter t s events zero = s
 senderAfter t s events (suc n) =
     let u = senderAfter t s events n in leftBy u (eventOn t u events (22 * n))
 
--- 5 bytes an event: the refusal's number or 0, and the window that is handed back, 0 with a refusal
+-- 6 bytes an event: the refusal's number or 0, the window that is handed back, 0 with a refusal, and 1 where an ack's window was
+-- clipped, else 0
 unfoldable pub replyBytes : Reply → List ℕ
-replyBytes (reply.Taken h) = 0 ∷ bytesOf 4 (h .window)
-replyBytes (reply.Refused k) = k % 256 ∷ bytesOf 4 0
+replyBytes (reply.Taken h) = 0 ∷ (bytesOf 4 (h .window) ++ (flagByte (h .clipped) ∷ []))
+replyBytes (reply.Refused k) = k % 256 ∷ (bytesOf 4 0 ++ (0 ∷ []))
 
 unfoldable pub repliesBytes : RuleTree → Sender → List ℕ → ℕ → List ℕ
 unfolding senderAfter replyBytes
@@ -56,13 +57,13 @@ repliesBytes t s events (suc n) =
 abbrev pub eventCount : List ℕ → ℕ
 eventCount events = length events / 22
 
--- 6, 7, 8 of the record; a sender of another length 6; events that are cut 6; a buffer too short for 5 bytes an event 9
+-- 6, 7, 8 of the record; a sender of another length 6; events that are cut 6; a buffer too short for 6 bytes an event 9
 unfoldable pub eventsIn : Answered → List ℕ → List ℕ → List ℕ → Saved
 eventsIn a sender events out =
     cond (eqb (a .refused) 0)
     (cond (eqb (length sender) 108)
     (cond (eqb (length events % 22) 0)
-    (cond (leb (5 * eventCount events) (length out)) (saved.Size (5 * eventCount events)) (saved.Refused shortBuffer))
+    (cond (leb (6 * eventCount events) (length out)) (saved.Size (6 * eventCount events)) (saved.Refused shortBuffer))
     (saved.Refused badLength))
     (saved.Refused badLength))
     (saved.Refused (a .refused))

@@ -1,5 +1,5 @@
 -- What the private functions of the code are held to: parts of a sender's bytes, of a reply's, and of the answer to events.
-use mathlib.Core.Bool.{cond}
+use mathlib.Core.Bool.{Bool, false, cond}
 use mathlib.Core.List.{List, _++_}
 use Prim.Native.Nat.{ℕ, _*_, _/_, _%_}
 use lib.Dec.{eqb, leb}
@@ -40,9 +40,13 @@ unfoldable pub shownBy : Reply → ℕ
 shownBy (reply.Taken h) = h .window
 shownBy (reply.Refused k) = 0
 
+unfoldable pub clippedBy : Reply → Bool
+clippedBy (reply.Taken h) = h .clipped
+clippedBy (reply.Refused k) = false
+
 -- what events answer over a taken record, from the lengths of the sender, the events and the buffer
 unfoldable pub eventsFit : ℕ → ℕ → ℕ → Saved
 eventsFit sender events out =
     cond (eqb sender 108)
-    (cond (eqb (events % 22) 0) (cond (leb (5 * (events / 22)) out) (saved.Size (5 * (events / 22))) (saved.Refused shortBuffer)) (saved.Refused badLength))
+    (cond (eqb (events % 22) 0) (cond (leb (6 * (events / 22)) out) (saved.Size (6 * (events / 22))) (saved.Refused shortBuffer)) (saved.Refused badLength))
     (saved.Refused badLength)

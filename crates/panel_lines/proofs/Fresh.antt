@@ -12,7 +12,7 @@ use Rattle.remy.specs.declared.action.Action.{Action}
 use Rattle.remy.specs.declared.point.Point.{Point}
 use Rattle.rule_tree.specs.declared.Node.{Node}
 use Rattle.rule_tree.specs.declared.RuleTree.{RuleTree}
-use Rattle.rule_tree.specs.Lists.{allBelow, tabulate, total}
+use Rattle.rule_tree.specs.Lists.{allBelow, countBelow, tabulate, total}
 use Rattle.rule_tree.specs.Nodes.{noNode, nodeAt, blankNode, leafWith, actionIn}
 use Rattle.rule_tree.specs.Counts.{countsHold}
 use Rattle.rule_tree.specs.Change.{freshTree}
@@ -30,9 +30,10 @@ use Rattle.record.specs.Write.{recordOf}
 use Rattle.record.proofs.Stands.{SettingsFits}
 use Rattle.record.proofs.RoundTrip.{TrainerFits}
 use Rattle.record.proofs.BytesFit.{zero-fits, plain-fits}
-use Rattle.panel_lines.specs.declared.Shown.the-variants.{Size}
-use Rattle.panel_lines.specs.Panel.{digits, shareOf, leafLines, linesOf, countsIn, countsShown, panelOf, outAfter}
-use Rattle.panel_lines.specs.Parts.{countsAfter, linesAfter}
+use Rattle.record.specs.declared.Saved.the-variants.{Size}
+use Rattle.panel_lines.specs.Shares.{shareAmong}
+use Rattle.panel_lines.specs.Panel.{digits, leafLines, linesOf, countsIn, panelOf, outAfter}
+use Rattle.panel_lines.specs.Parts.{linesAfter, countsShown, countsAfter}
 use Rattle.panel_lines.proofs.Saved.{saved-shown, saved-after}
 
 -- the bytes of "leaves 1 splits 0" and "0 1000", each with its line's end
@@ -101,7 +102,7 @@ unfolding countsHold allBelow total
 fresh-holds e a = refl
 
 fresh-lines : (e : Point) (a : Action) → linesOf (freshTree e a) (5 ∷ []) ≡ example
-unfolding linesOf leafLines digits shareOf total example
+unfolding linesOf leafLines digits shareAmong total countBelow example
 fresh-lines e a = refl
 
 fresh-shown : (e : Point) (a : Action) (out : List ℕ) → 25 ≤ length out → countsShown (freshTree e a) (bytesOf 8 5) out ≡ Size 25

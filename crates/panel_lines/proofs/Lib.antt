@@ -1,9 +1,16 @@
 pub mod Decimal
 pub mod Texts
+pub mod Filling
 pub mod Reading
+pub mod Sums
+pub mod Cuts
+pub mod Ranks
 pub mod Shares
+pub mod ShareWays
+pub mod Taken
 pub mod Lines
 pub mod Room
+pub mod Nested
 pub mod Ways
 pub mod PanelLaws
 pub mod Saved

@@ -1,5 +1,6 @@
 -- The lines, stored part after part, and the room that they take. Assumes nothing.
 use mathlib.Core.Path.{_≡_, refl, sym, ap, subst, _∙_}
+use mathlib.Core.Bool.{cond}
 use mathlib.Core.List.{List, [], _∷_, _++_, append-assoc}
 use mathlib.Core.Logic.{⊎-elim}
 use Prim.Native.Nat.{ℕ, zero, suc, _+_, _*_, _<_, _≤_}
@@ -7,12 +8,11 @@ use native.Mathlib.Nat.{eq-or-lt-of-le}
 use native.Mathlib.Numerals.{add-one}
 use native.Mathlib.Omega.{arith}
 use borrow.Author.Tests.{eq-eqb, ne-eqb}
-use lib.ListN.{length, getD, set, length-append}
+use lib.ListN.{length, set, length-append}
 use lib.Seq.{sets}
 use Rattle.rule_tree.specs.declared.Node.{Node}
 use Rattle.rule_tree.specs.declared.RuleTree.{RuleTree}
-use Rattle.rule_tree.specs.Lists.{total}
-use Rattle.rule_tree.specs.Nodes.{nodeAt, nodeCount}
+use Rattle.rule_tree.specs.Nodes.{nodeAt, isLeaf, nodeCount}
 use Rattle.wire.proofs.Stores.{wrote}
 use Rattle.panel_lines.specs.Panel.{decimal, shareOf, leafLine, leafLines, firstLine, linesOf}
 use Rattle.panel_lines.specs.Parts.{Wrote, nodeLine}
@@ -45,54 +45,55 @@ leaf-written i share {l} {l1} {l2} {at} {space} {end} p q =
     named (simp append-assoc) (then (then (then p (byte l1 space 32)) q) (byte l2 end 10))
 
 -- ---- a node's line, if it is a leaf
-module _ (x : Node) (i count all : ℕ) where
-  pub node-leaf : x .children ≡ 0 → nodeLine x i count all ≡ leafLine i (shareOf count all)
+module _ (x : Node) (i share : ℕ) where
+  pub node-leaf : x .children ≡ 0 → leafLine i share ≡ nodeLine x i share
   node-leaf e = rw (eq-eqb (x .children) 0 e)
 
-  pub node-count : (share : ℕ) → x .children ≡ 0 → share ≡ shareOf count all → length (leafLine i share) ≡ length (nodeLine x i count all)
-  node-count share e f = ap (λ (k : ℕ). length (leafLine i k)) f ∙ ap length (sym (node-leaf e))
-
-  pub node-written : {l m : List ℕ} {at k share : ℕ} → x .children ≡ 0 → share ≡ shareOf count all → Wrote l at m k (leafLine i share)
-      → Wrote l at m k (nodeLine x i count all)
-  node-written e f p = named (ap (leafLine i) f ∙ sym (node-leaf e)) p
-
-  pub node-skipped : (l : List ℕ) (at : ℕ) → (x .children ≡ 0 → ⊥) → Wrote l at l at (nodeLine x i count all)
+  pub node-skipped : (l : List ℕ) (at : ℕ) → (x .children ≡ 0 → ⊥) → Wrote l at l at (nodeLine x i share)
   node-skipped l at n = rw (ne-eqb (x .children) 0 n) (nothing l at)
 
 -- ---- the leaves' lines
-module _ (nodes : List Node) (xs : List ℕ) where
+module _ (nodes : List Node) (share : ℕ → ℕ) where
   abbrev line : ℕ → List ℕ
-  line i = nodeLine (nodeAt nodes i) i (getD xs i 0) (total xs)
+  line i = nodeLine (nodeAt nodes i) i (share i)
 
-  lines-suc : (i : ℕ) → leafLines nodes xs (suc i) ≡ leafLines nodes xs i ++ line i
+  lines-suc : (i : ℕ) → leafLines nodes share (suc i) ≡ leafLines nodes share i ++ line i
   unfolding leafLines
   lines-suc i = refl
 
-  lines-more : (i : ℕ) → leafLines nodes xs i ++ line i ≡ leafLines nodes xs (i + 1)
-  lines-more i = sym (ap (leafLines nodes xs) (add-one i) ∙ lines-suc i)
+  lines-more : (i : ℕ) → leafLines nodes share i ++ line i ≡ leafLines nodes share (i + 1)
+  lines-more i = sym (ap (leafLines nodes share) (add-one i) ∙ lines-suc i)
 
-  pub lines-count : (i : ℕ) → length (leafLines nodes xs (suc i)) ≡ length (leafLines nodes xs i) + length (line i)
-  lines-count i = ap length (lines-suc i) ∙ length-append (leafLines nodes xs i) (line i)
+  pub lines-count : (i : ℕ) → length (leafLines nodes share (suc i)) ≡ length (leafLines nodes share i) + length (line i)
+  lines-count i = ap length (lines-suc i) ∙ length-append (leafLines nodes share i) (line i)
 
-  pub lines-grow : (i n : ℕ) → i < n → length (leafLines nodes xs i) + length (line i) ≤ length (leafLines nodes xs n)
+  pub lines-grow : (i n : ℕ) → i < n → length (leafLines nodes share i) + length (line i) ≤ length (leafLines nodes share n)
   lines-grow i zero l = absurd (omega arith)
   lines-grow i (suc n) l =
       let e = lines-count n in
-      ⊎-elim (λ (p : i ≡ n). subst (λ (k : ℕ). length (leafLines nodes xs k) + length (line k) ≤ length (leafLines nodes xs (suc n))) (sym p) (omega arith))
+      ⊎-elim (λ (p : i ≡ n). subst (λ (k : ℕ). length (leafLines nodes share k) + length (line k) ≤ length (leafLines nodes share (suc n))) (sym p) (omega arith))
       (λ (q : i < n). let h = lines-grow i n q in omega arith)
       (eq-or-lt-of-le (let q : i ≤ n = omega arith in q))
 
-  pub lines-none : (l : List ℕ) (at : ℕ) → Wrote l at l at (leafLines nodes xs 0)
+  pub line-room : (i at n : ℕ) {k r : ℕ} → i < n → k ≡ at + length (leafLines nodes share i) → at + length (leafLines nodes share n) ≤ r → k + length (line i) ≤ r
+  line-room i at n l p h = let g = lines-grow i n l in omega arith
+
+  pub lines-none : (l : List ℕ) (at : ℕ) → Wrote l at l at (leafLines nodes share 0)
   unfolding leafLines
   lines-none l at = nothing l at
 
-  pub lines-turn : (i all : ℕ) {l m r : List ℕ} {at k j : ℕ} → all ≡ total xs → Wrote l at m k (leafLines nodes xs i)
-      → Wrote m k r j (nodeLine (nodeAt nodes i) i (getD xs i 0) all) → Wrote l at r j (leafLines nodes xs (i + 1))
-  lines-turn i all {l} {m} {r} {at} {k} {j} e p q =
-      named (lines-more i) (then p (named (ap (nodeLine (nodeAt nodes i) i (getD xs i 0)) e) q))
+  pub lines-turn : (i : ℕ) {l m r : List ℕ} {at k j : ℕ} → Wrote l at m k (leafLines nodes share i) → Wrote m k r j (line i) → Wrote l at r j (leafLines nodes share (i + 1))
+  lines-turn i p q = named (lines-more i) (then p q)
 
-  pub lines-done : (i n : ℕ) {l m : List ℕ} {at k : ℕ} → i ≡ n → Wrote l at m k (leafLines nodes xs i) → Wrote l at m k (leafLines nodes xs n)
-  lines-done i n e p = named (ap (leafLines nodes xs) e) p
+  pub lines-done : (i n : ℕ) {l m : List ℕ} {at k : ℕ} → i ≡ n → Wrote l at m k (leafLines nodes share i) → Wrote l at m k (leafLines nodes share n)
+  lines-done i n e p = named (ap (leafLines nodes share) e) p
+
+pub lines-same : (nodes : List Node) (f g : ℕ → ℕ) (n : ℕ) → ((i : ℕ) → i < n → f i ≡ g i) → leafLines nodes f n ≡ leafLines nodes g n
+unfolding leafLines
+lines-same nodes f g zero h = refl
+lines-same nodes f g (suc n) h =
+    ap (λ (r : List ℕ). r ++ cond (isLeaf nodes n) (leafLine n (f n)) []) (lines-same nodes f g n (λ i l. h i (omega arith)))
+    ∙ ap (λ (k : ℕ). leafLines nodes g n ++ cond (isLeaf nodes n) (leafLine n k) []) (h n (omega arith))
 
 -- ---- the first line
 abbrev pub leaves : List ℕ
@@ -113,19 +114,11 @@ first-written s {l} {l1} {l2} {l3} {l4} {a} {b} {d} {e} p q r t =
     named (simp append-assoc) (then (then (then (then p q) r) t) (byte l4 e 10))
 
 -- ---- all the lines
-module _ (nodes : List Node) (xs : List ℕ) where
-  pub line-room : (i all at n : ℕ) {k r : ℕ} → all ≡ total xs → i < n → k ≡ at + length (leafLines nodes xs i)
-      → at + length (leafLines nodes xs n) ≤ r → k + length (nodeLine (nodeAt nodes i) i (getD xs i 0) all) ≤ r
-  line-room i all at n {k} {r} e l p h =
-      let g = lines-grow nodes xs i n l in
-      let f = ap (λ (m : ℕ). length (nodeLine (nodeAt nodes i) i (getD xs i 0) m)) e in
-      omega arith
-
-pub lines-length : (t : RuleTree) (xs : List ℕ) → length (linesOf t xs) ≡ length (firstLine (t .splits)) + length (leafLines (t .nodes) xs (nodeCount (t .splits)))
+pub lines-length : (t : RuleTree) (xs : List ℕ) → length (linesOf t xs) ≡ length (firstLine (t .splits)) + length (leafLines (t .nodes) (shareOf t xs) (nodeCount (t .splits)))
 unfolding linesOf
-lines-length t xs = length-append (firstLine (t .splits)) (leafLines (t .nodes) xs (nodeCount (t .splits)))
+lines-length t xs = length-append (firstLine (t .splits)) (leafLines (t .nodes) (shareOf t xs) (nodeCount (t .splits)))
 
-pub lines-written : (t : RuleTree) (xs : List ℕ) {l m r : List ℕ} {k j : ℕ} → Wrote l 0 m k (firstLine (t .splits))
-    → Wrote m k r j (leafLines (t .nodes) xs (nodeCount (t .splits))) → Wrote l 0 r j (linesOf t xs)
+pub lines-written : (t : RuleTree) (xs : List ℕ) {l m r : List ℕ} {k j : ℕ} {text : List ℕ} → text ≡ leafLines (t .nodes) (shareOf t xs) (nodeCount (t .splits))
+    → Wrote l 0 m k (firstLine (t .splits)) → Wrote m k r j text → Wrote l 0 r j (linesOf t xs)
 unfolding linesOf
-lines-written t xs p q = then p q
+lines-written t xs e p q = then p (named e q)

@@ -20,28 +20,17 @@ use Rattle.trainer.specs.Calls.{blankTrainer}
 use Rattle.wire.specs.Bytes.{numberAt, valueFrom}
 use Rattle.record.specs.Read.{readOf}
 use Rattle.record.specs.Calls.{lengthHolds, versionHolds, bodyHolds, loadOf}
-use Rattle.panel_lines.specs.declared.Shown.{Shown}
-use Rattle.panel_lines.specs.declared.Shown.the-variants.{Size, Refused}
-use Rattle.panel_lines.specs.Panel.{linesOf, fitted, recordPart, countsPart, countsIn, startHolds, countsShown, recordShown, panelOf, outAfter}
+use Rattle.record.specs.declared.Saved.{Saved}
+use Rattle.record.specs.declared.Saved.the-variants.{Size, Refused}
+use Rattle.panel_lines.specs.Panel.{linesOf, recordPart, countsPart, countsIn, treeIn, countsOf, textOf, startHolds, panelOf, outAfter}
+use Rattle.panel_lines.specs.Parts.{fitted, countsShown, recordShown}
 use Rattle.record.proofs.Size.{leaves-count}
 use Rattle.record.proofs.Loading.{accepted-grown, load-again}
 use Rattle.panel_lines.proofs.Room.{lines-fit}
 use Rattle.panel_lines.proofs.Ways.{load-splits}
+use Rattle.panel_lines.proofs.Nested.{loaded, panel-nested}
 
 -- ---- "leaves L": as many as are listed
-loaded : (bytes : List ℕ) → loadOf bytes .refused ≡ 0 → loadOf bytes ≡ taken (readOf bytes)
-unfolding loadOf
-loaded bytes h = by (lengthHolds bytes) (versionHolds bytes) (bodyHolds bytes) h
-  where
-    given : Bool → Bool → Bool → Answered
-    given x y z = cond x (cond y (cond z (taken (readOf bytes)) (refuse 8 blankTrainer)) (refuse 7 blankTrainer)) (refuse 6 blankTrainer)
-
-    by : (x y z : Bool) → given x y z .refused ≡ 0 → given x y z ≡ taken (readOf bytes)
-    by true true true e = refl
-    by true true false e = absurd (omega arith)
-    by true false z e = absurd (omega arith)
-    by false y z e = absurd (omega arith)
-
 pub leaves-told : (bytes : List ℕ) → loadOf bytes .refused ≡ 0
     → countBelow (nodeCount (loadOf bytes .trainer .tree .splits)) (isLeaf (loadOf bytes .trainer .tree .nodes)) ≡ 1 + 7 * loadOf bytes .trainer .tree .splits
 leaves-told bytes h =
@@ -51,7 +40,7 @@ leaves-told bytes h =
 
 -- ---- an input of more bytes than any that is taken
 -- what is answered to it hangs on the record alone
-longAnswer : ℕ → Answered → Shown
+longAnswer : ℕ → Answered → Saved
 longAnswer n a = cond (leb n 16384) (cond (eqb (a .refused) 0) (Refused 4) (Refused (a .refused))) (Refused 6)
 
 module _ (input out : List ℕ) (l : 20493 ≤ length input) where
@@ -82,8 +71,8 @@ module _ (input out : List ℕ) (l : 20493 ≤ length input) where
       by false z = refl
 
   long-panel : panelOf input out ≡ longAnswer n (loadOf (recordPart input))
-  unfolding panelOf longAnswer
-  long-panel = rw long-start (by (leb n 16384) refl)
+  unfolding longAnswer
+  long-panel = panel-nested input out ∙ rw long-start (by (leb n 16384) refl)
     where
       by : (b : Bool) → leb n 16384 ≡ b
           → cond b (recordShown (loadOf (recordPart input)) (countsPart input) out) (Refused 6)
@@ -123,7 +112,7 @@ module _ (input out : List ℕ) where
     unfolding longAnswer
     same-answer = ap (λ (k : ℕ). longAnswer k (loadOf (recordPart first))) first-number ∙ by (leb (numberAt input 0 4) 16384) refl
       where
-        shown : Answered → Shown
+        shown : Answered → Saved
         shown a = cond (eqb (a .refused) 0) (Refused 4) (Refused (a .refused))
 
         by : (b : Bool) → leb (numberAt input 0 4) 16384 ≡ b
@@ -196,8 +185,7 @@ module _ (out : List ℕ) (room : 8192 ≤ length out) where
       by false z e = load-number bytes (refused-number (loadOf bytes .refused) 9 e)
 
   pub never-short : (input : List ℕ) → panelOf input out ≡ Refused 9 → ⊥
-  unfolding panelOf
-  never-short input e = by (startHolds input) e
+  never-short input e = by (startHolds input) (sym (panel-nested input out) ∙ e)
     where
       by : (b : Bool) → cond b (recordShown (loadOf (recordPart input)) (countsPart input) out) (Refused 6) ≡ Refused 9 → ⊥
       by true e = record-never (recordPart input) (countsPart input) e
@@ -207,35 +195,19 @@ module _ (out : List ℕ) (room : 8192 ≤ length out) where
 size-number : (m n : ℕ) → Size m ≡ Size n → m ≡ n
 size-number m n e = cc
 
-fitted-size : (text out : List ℕ) (n : ℕ) → fitted text out ≡ Size n → n ≤ length out
-fitted-size text out n e = by (leb (length text) (length out)) refl e
-  where
-    by : (b : Bool) → leb (length text) (length out) ≡ b → cond b (Size (length text)) (Refused 9) ≡ Size n → n ≤ length out
-    by true l e = omega (arith, leb-true (length text) (length out) l, size-number (length text) n e)
-    by false l e = absurd (never-size n 9 (sym e))
-
 pub size-inside : (input out : List ℕ) (n : ℕ) → panelOf input out ≡ Size n → n ≤ length out
-unfolding panelOf recordShown countsShown
+unfolding panelOf
 size-inside input out n e =
-    by (startHolds input) (eqb (a .refused) 0) (eqb (length rest) (8 * nodeCount (t .splits))) (countsHold t xs) e
+    by (startHolds input) (versionHolds (recordPart input)) (bodyHolds (recordPart input))
+    (eqb (length (countsPart input)) (8 * nodeCount (treeIn input .splits)) && countsHold (treeIn input) (countsOf input))
+    (leb (length (textOf input)) (length out)) refl e
   where
-    a : Answered
-    a = loadOf (recordPart input)
-
-    t : RuleTree
-    t = a .trainer .tree
-
-    rest : List ℕ
-    rest = countsPart input
-
-    xs : List ℕ
-    xs = countsIn rest (nodeCount (t .splits))
-
-    by : (b d f g : Bool)
-        → cond b (cond d (cond f (cond g (fitted (linesOf t xs) out) (Refused 4)) (Refused 4)) (Refused (a .refused))) (Refused 6) ≡ Size n
+    by : (x y z c f : Bool) → leb (length (textOf input)) (length out) ≡ f
+        → cond x (cond y (cond z (cond c (cond f (Size (length (textOf input))) (Refused 9)) (Refused 4)) (Refused 8)) (Refused 7)) (Refused 6) ≡ Size n
         → n ≤ length out
-    by true true true true e = fitted-size (linesOf t xs) out n e
-    by true true true false e = absurd (never-size n 4 (sym e))
-    by true true false g e = absurd (never-size n 4 (sym e))
-    by true false f g e = absurd (never-size n (a .refused) (sym e))
-    by false d f g e = absurd (never-size n 6 (sym e))
+    by true true true true true l e = omega (arith, leb-true (length (textOf input)) (length out) l, size-number (length (textOf input)) n e)
+    by true true true true false l e = absurd (never-size n 9 (sym e))
+    by true true true false f l e = absurd (never-size n 4 (sym e))
+    by true true false c f l e = absurd (never-size n 8 (sym e))
+    by true false z c f l e = absurd (never-size n 7 (sym e))
+    by false y z c f l e = absurd (never-size n 6 (sym e))

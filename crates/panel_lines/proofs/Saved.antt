@@ -1,13 +1,16 @@
 -- The panel of a saved record and the bytes after it; and of a fresh record and the count 5, the lines of 01's example. Assumes nothing.
-use mathlib.Core.Path.{_≡_, refl, ap, _∙_}
+use mathlib.Core.Path.{_≡_, refl, sym, ap, _∙_}
 use mathlib.Core.Bool.{true}
 use mathlib.Core.List.{List, _++_, append-assoc}
 use Prim.Native.Nat.{ℕ, _+_, _-_, _≤_}
 use native.Mathlib.Omega.{arith}
 use borrow.Author.Tests.{le-leb}
-use lib.ListN.{length, length-append}
+use lib.ListN.{length, drop, length-append}
 use lib.Seq.{take-at, drop-at}
+use Rattle.rule_tree.specs.declared.RuleTree.{RuleTree}
+use Rattle.rule_tree.specs.Nodes.{nodeCount}
 use Rattle.trainer.specs.declared.Trainer.{Trainer}
+use Rattle.trainer.specs.declared.Answered.{Answered}
 use Rattle.trainer.specs.State.{acceptedOf}
 use Rattle.trainer.specs.Phases.{taken}
 use Rattle.wire.specs.Bytes.{bytesOf, numberAt}
@@ -18,10 +21,11 @@ use Rattle.wire.proofs.Bytes.{bytes-count, number-stands}
 use Rattle.record.proofs.Size.{record-small}
 use Rattle.record.proofs.RoundTrip.{TrainerFits}
 use Rattle.record.proofs.Loading.{accepted-grown, load-saved}
-use Rattle.panel_lines.specs.declared.Shown.{Shown}
-use Rattle.panel_lines.specs.declared.Shown.the-variants.{Size, Refused}
-use Rattle.panel_lines.specs.Panel.{recordPart, countsPart, startHolds, countsShown, recordShown, panelOf, outAfter}
-use Rattle.panel_lines.specs.Parts.{countsAfter, linesAfter}
+use Rattle.record.specs.declared.Saved.{Saved}
+use Rattle.record.specs.declared.Saved.the-variants.{Size, Refused}
+use Rattle.panel_lines.specs.Panel.{linesOf, recordPart, countsPart, countsIn, startHolds, treeIn, panelOf, outAfter}
+use Rattle.panel_lines.specs.Parts.{linesAfter, countsShown, countsAfter, recordShown}
+use Rattle.panel_lines.proofs.Nested.{loaded, panel-nested}
 
 -- ---- a saved record, and whatever bytes come after it
 module _ (t : Trainer) (f : TrainerFits t) (a : acceptedOf t ≡ true) (more : List ℕ) where
@@ -63,10 +67,16 @@ module _ (t : Trainer) (f : TrainerFits t) (a : acceptedOf t ≡ true) (more : L
   counts = drop-at (recordOf t) more _ place
 
   pub saved-shown : (out : List ℕ) → panelOf (recordOf t ++ more) out ≡ countsShown (t .tree) more out
-  unfolding panelOf recordShown input
-  saved-shown out = rw (starts, loads, counts)
+  unfolding recordShown input
+  saved-shown out = panel-nested (recordOf t ++ more) out ∙ rw (starts, loads, counts)
 
-  pub saved-after : (out : List ℕ) (x : Shown) → outAfter (recordOf t ++ more) out x ≡ countsAfter (t .tree) more out x
+  tree : treeIn input ≡ t .tree
+  tree =
+      ap (λ (a : Answered). a .trainer .tree) (sym (loaded (recordPart input) (ap (λ (a : Answered). a .refused) loads)) ∙ loads)
+
+  pub saved-after : (out : List ℕ) (x : Saved) → outAfter (recordOf t ++ more) out x ≡ countsAfter (t .tree) more out x
   unfolding outAfter linesAfter input
-  saved-after out (Size n) = rw (loads, counts)
+  saved-after out (Size n) =
+      ap (λ (r : RuleTree). linesOf r (countsIn (countsPart input) (nodeCount (r .splits))) ++ drop n out) tree
+      ∙ ap (λ (b : List ℕ). linesOf (t .tree) (countsIn b (nodeCount (t .tree .splits))) ++ drop n out) counts
   saved-after out (Refused k) = refl

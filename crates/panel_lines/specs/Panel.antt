@@ -1,21 +1,23 @@
 -- 01, "Panel": the lines that a record and its counts are shown as.
-use mathlib.Core.Bool.{Bool, true, false, _&&_, cond}
+use mathlib.Core.Bool.{Bool, _&&_, cond}
 use mathlib.Core.List.{List, [], _∷_, _++_}
 use Prim.Native.Nat.{ℕ, zero, suc, _+_, _-_, _*_, _/_, _%_}
-use lib.ListN.{length, take, drop, getD}
+use lib.ListN.{length, take, drop}
 use lib.Dec.{eqb, leb, ltb}
-use Rattle.refusal.specs.Numbers.{badCounts, badLength, shortBuffer}
+use Rattle.refusal.specs.Numbers.{badCounts, badField, badLength, shortBuffer, unknownVersion}
+use Rattle.refusal.specs.Guards.{Test, test, guarded}
 use Rattle.rule_tree.specs.declared.Node.{Node}
 use Rattle.rule_tree.specs.declared.RuleTree.{RuleTree}
-use Rattle.rule_tree.specs.Lists.{tabulate, total}
+use Rattle.rule_tree.specs.Lists.{tabulate}
 use Rattle.rule_tree.specs.Nodes.{isLeaf, nodeCount}
 use Rattle.rule_tree.specs.Counts.{countsHold}
 use Rattle.trainer.specs.declared.Trainer.{Trainer}
-use Rattle.trainer.specs.declared.Answered.{Answered}
 use Rattle.wire.specs.Bytes.{numberAt}
-use Rattle.record.specs.Calls.{loadOf}
-use Rattle.panel_lines.specs.declared.Shown.{Shown}
-use Rattle.panel_lines.specs.declared.Shown.the-variants.{Size, Refused}
+use Rattle.record.specs.declared.Saved.{Saved}
+use Rattle.record.specs.declared.Saved.the-variants.{Size, Refused}
+use Rattle.record.specs.Read.{readOf}
+use Rattle.record.specs.Calls.{versionHolds, bodyHolds}
+use Rattle.panel_lines.specs.Shares.{shareAmong}
 
 -- a number in decimal, of at most n digits
 unfoldable pub digits : ℕ → ℕ → List ℕ
@@ -25,20 +27,15 @@ digits (suc n) x = cond (ltb x 10) ((48 + x) ∷ []) (digits n (x / 10) ++ ((48 
 abbrev pub decimal : ℕ → List ℕ
 decimal x = digits 20 x
 
--- "share = 1000 × count / total cut to whole (0 if total is 0)"
-unfoldable pub shareOf : ℕ → ℕ → ℕ
-shareOf count all = cond (eqb all 0) 0 (1000 * count / all)
-
 -- "node share", a line each
 abbrev pub leafLine : ℕ → ℕ → List ℕ
 leafLine i share = decimal i ++ (32 ∷ (decimal share ++ (10 ∷ [])))
 
 -- "per leaf by rising node": the first n nodes
-unfoldable pub leafLines : List Node → List ℕ → ℕ → List ℕ
-unfolding digits shareOf
-leafLines nodes counts zero = []
-leafLines nodes counts (suc n) =
-    leafLines nodes counts n ++ cond (isLeaf nodes n) (leafLine n (shareOf (getD counts n 0) (total counts))) []
+unfoldable pub leafLines : List Node → (ℕ → ℕ) → ℕ → List ℕ
+unfolding digits
+leafLines nodes share zero = []
+leafLines nodes share (suc n) = leafLines nodes share n ++ cond (isLeaf nodes n) (leafLine n (share n)) []
 
 -- "leaves L splits S": the bytes of "leaves ", " splits " and a line's end
 abbrev pub firstLine : ℕ → List ℕ
@@ -46,9 +43,13 @@ firstLine s =
     (108 ∷ 101 ∷ 97 ∷ 118 ∷ 101 ∷ 115 ∷ 32 ∷ []) ++ (decimal (1 + 7 * s)
     ++ ((32 ∷ 115 ∷ 112 ∷ 108 ∷ 105 ∷ 116 ∷ 115 ∷ 32 ∷ []) ++ (decimal s ++ (10 ∷ []))))
 
+-- 02, request 5: "The panel's rule in 01 is read this way from now on"
+abbrev pub shareOf : RuleTree → List ℕ → ℕ → ℕ
+shareOf t counts i = shareAmong (isLeaf (t .nodes)) counts i
+
 unfoldable pub linesOf : RuleTree → List ℕ → List ℕ
 unfolding leafLines
-linesOf t counts = firstLine (t .splits) ++ leafLines (t .nodes) counts (nodeCount (t .splits))
+linesOf t counts = firstLine (t .splits) ++ leafLines (t .nodes) (shareOf t counts) (nodeCount (t .splits))
 
 -- "standard input is a record, then 8 bytes big-endian per node, the counts"
 abbrev pub recordPart : List ℕ → List ℕ
@@ -64,31 +65,28 @@ countsIn bytes n = tabulate n (λ i. numberAt bytes (8 * i) 8)
 unfoldable pub startHolds : List ℕ → Bool
 startHolds input = leb 4 (length input) && (leb (numberAt input 0 4) 16384 && leb (numberAt input 0 4) (length input - 4))
 
--- a list of lines that fits the lent buffer, or 9
-abbrev pub fitted : List ℕ → List ℕ → Shown
-fitted text out = cond (leb (length text) (length out)) (Size (length text)) (Refused shortBuffer)
+-- the tree of the record, the counts of its nodes, and its lines
+abbrev pub treeIn : List ℕ → RuleTree
+treeIn input = readOf (recordPart input) .tree
 
--- 4: counts that are not one per node, above 0 at a parent, or over 2^53 in all
-unfoldable pub countsShown : RuleTree → List ℕ → List ℕ → Shown
-countsShown t bytes out =
-    let counts = countsIn bytes (nodeCount (t .splits)) in
-    cond (eqb (length bytes) (8 * nodeCount (t .splits)))
-    (cond (countsHold t counts) (fitted (linesOf t counts) out) (Refused badCounts))
-    (Refused badCounts)
+abbrev pub countsOf : List ℕ → List ℕ
+countsOf input = countsIn (countsPart input) (nodeCount (treeIn input .splits))
 
--- 7, 8 as load has them, then 4
-unfoldable pub recordShown : Answered → List ℕ → List ℕ → Shown
-unfolding countsShown
-recordShown a bytes out = cond (eqb (a .refused) 0) (countsShown (a .trainer .tree) bytes out) (Refused (a .refused))
+abbrev pub textOf : List ℕ → List ℕ
+textOf input = linesOf (treeIn input) (countsOf input)
 
--- panel: 6, 7, 8, 4, and 9 for a buffer that is too short
-unfoldable pub panelOf : List ℕ → List ℕ → Shown
-unfolding startHolds recordShown
-panelOf input out = cond (startHolds input) (recordShown (loadOf (recordPart input)) (countsPart input) out) (Refused badLength)
+-- "6, 7, 8, in the panel then 4", and 9 for a buffer that is too short
+abbrev pub panelOrder : List ℕ → List ℕ → List Test
+panelOrder input out =
+    test (startHolds input) badLength ∷ test (versionHolds (recordPart input)) unknownVersion ∷ test (bodyHolds (recordPart input)) badField
+    ∷ test (eqb (length (countsPart input)) (8 * nodeCount (treeIn input .splits)) && countsHold (treeIn input) (countsOf input)) badCounts
+    ∷ test (leb (length (textOf input)) (length out)) shortBuffer ∷ []
+
+unfoldable pub panelOf : List ℕ → List ℕ → Saved
+unfolding startHolds
+panelOf input out = guarded (panelOrder input out) Refused (Size (length (textOf input)))
 
 -- the buffer after: the lines, and then what it held; a refused panel changes no byte
-unfoldable pub outAfter : List ℕ → List ℕ → Shown → List ℕ
-outAfter input out (Size n) =
-    let t = loadOf (recordPart input) .trainer .tree in
-    linesOf t (countsIn (countsPart input) (nodeCount (t .splits))) ++ drop n out
+unfoldable pub outAfter : List ℕ → List ℕ → Saved → List ℕ
+outAfter input out (Size n) = textOf input ++ drop n out
 outAfter input out (Refused k) = out

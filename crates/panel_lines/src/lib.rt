@@ -3,16 +3,12 @@ ghost use mathlib.Core.Path.{_≡_};
 ghost use Rattle.panel_lines.specs.Panel.{panelOf, outAfter};
 use crate::inner::read;
 use crate::inner::show;
+use record::Saved;
 
 pub mod inner;
 
-pub enum Shown {
-    Size(usize),
-    Refused(u32),
-}
-
 // Writes the lines of the record and the counts that input holds, and answers their size. A refused panel writes nothing.
-pub fn panel(input: &[u8], out: &mut [u8]) -> Shown
+pub fn panel(input: &[u8], out: &mut [u8]) -> Saved
     ensures { λ r. ⌜ (r ≡ panelOf (now (input .entry)) (now (out .entry))) × (now (out .exit) ≡ outAfter (now (input .entry)) (now (out .entry)) (panelOf (now (input .entry)) (now (out .entry)))) ⌝ }
 {
     if read::start_holds(input) {
@@ -23,7 +19,7 @@ pub fn panel(input: &[u8], out: &mut [u8]) -> Shown
             let tree = t.tree;
             return show::counts_shown(tree, &input[n..], out);
         }
-        return Shown::Refused(a.refused);
+        return Saved::Refused(a.refused);
     }
-    Shown::Refused(refusal::BAD_LENGTH)
+    Saved::Refused(refusal::BAD_LENGTH)
 }

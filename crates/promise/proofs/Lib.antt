@@ -22,6 +22,7 @@ pub mod Reload
 pub mod Runs
 pub mod SenderRender
 pub mod SenderLeaf
+pub mod Clipped
 pub mod SenderSteps
 pub mod SenderRun
 pub mod SenderAck

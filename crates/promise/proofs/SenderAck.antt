@@ -54,6 +54,7 @@ set-by s sent received a next =
       window = w;
       wait = wait-more (s .start .«intersend_delay») (s .history) x;
       answer = ap (shown (s .standing)) w;
+      clipped = refl;
     }
 
 -- ---- the four ways of an ack at moments that were read

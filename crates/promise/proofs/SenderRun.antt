@@ -43,7 +43,7 @@ over-all P Q f (c ∷ cs) h = (ack-over P Q f c (h .0), over-all P Q f cs (h .1)
 
 -- ---- one call
 abbrev pub plainStep : Reaction → SenderStep
-plainStep o = record { sender = stateOf (o .sender); event = event (o .refused) (o .window) }
+plainStep o = record { sender = stateOf (o .sender); event = event (o .refused) (o .window) (o .clipped) }
 
 refused-step : (s : PlainSender) (o : Reaction) (n : ℕ) → o ≡ refuse n s → afterReply (stateOf s) (Refused n) ≡ plainStep o
 unfolding afterReply
@@ -51,7 +51,7 @@ refused-step s o n e = ap plainStep (sym e)
 
 taken-step : (s : PlainSender) (o : Reaction) → o .refused ≡ 0 → afterReply (stateOf s) (Taken (heldOf o)) ≡ plainStep o
 unfolding afterReply
-taken-step s o e = ap (λ (n : ℕ). record { sender = stateOf (o .sender); event = event n (o .window) }) (sym e)
+taken-step s o e = ap (λ (n : ℕ). record { sender = stateOf (o .sender); event = event n (o .window) (o .clipped) }) (sym e)
 
 reply-step : (s : PlainSender) (o : Reaction) → (o .refused ≢ 0 → o ≡ refuse (o .refused) s) → afterReply (stateOf s) (replyOf o) ≡ plainStep o
 unfolding replyOf
@@ -79,7 +79,7 @@ unfolding senderEvents plainSenderEvents
 events-from [] v s = refl
 events-from (c ∷ cs) v s =
     ap (λ (o : SenderStep). o .event ∷ senderEvents (o .sender) (embedCalls cs)) (call-step s c (v .0))
-    ∙ ap (λ (es : List SenderEvent). event (react s c .refused) (react s c .window) ∷ es) (events-from cs (v .1) (react s c .sender))
+    ∙ ap (λ (es : List SenderEvent). event (react s c .refused) (react s c .window) (react s c .clipped) ∷ es) (events-from cs (v .1) (react s c .sender))
 
 pub end-from : (cs : List (SenderCall Tree)) → Over ValidTree cs → (s : PlainSender) → senderEnd (stateOf s) (embedCalls cs) ≡ stateOf (plainSenderEnd s cs)
 unfolding senderEnd plainSenderEnd

@@ -26,30 +26,34 @@ use Rattle.sender.specs.declared.Held.{Held}
 use Rattle.sender.specs.declared.Reply.{Reply}
 use Rattle.sender.specs.declared.Reply.the-variants.{Taken, Refused}
 use Rattle.sender.specs.declared.inner.acks.Drawn.the-variants.{Next, Missing}
-use Rattle.sender.specs.Acks.{settled, repeatNext, drawn, ackDrawn, ackWith, ackPending, ackAt, ackAdmitted}
-use Rattle.sender.specs.Sender.{ackOf, heldAs, sendAdmitted, sendOf, tickOf}
+use Rattle.sender.specs.Acks.{windowNow, paced, settled, repeatNext, drawn, ackDrawn, ackWith, ackPending, ackAt, ackAdmitted}
+use Rattle.sender.specs.Sender.{ackOf, sendAdmitted, sendOf, tickOf}
 use Rattle.sender.specs.SenderCall.{SenderCall, ack, send, tick}
 use Rattle.promise.specs.PlainTree.{Tree, Choice, nobody, leaf, ruleAt}
-use Rattle.promise.specs.PlainSender.{TakenAck, PlainSender, pendingNext, pendingNow, windowHeld, stateOf, leafAt, Reaction, refuse, answered, admitted, readAs, take, drawFails, drawLeaves, drawFor, lookUp, ackPoint, serve, standWith, react}
+use Rattle.promise.specs.PlainSender.{TakenAck, PlainSender, pendingNext, pendingNow, windowHeld, stateOf, leafAt, clips, Reaction, refuse, answeredWith, answered, admitted, readAs, take, drawFails, drawLeaves, drawFor, lookUp, ackPoint, serve, standWith, react}
 use Rattle.promise.proofs.Embed.{embedTree, ValidTree}
 use Rattle.promise.proofs.TreeGrown.{grown-embeds}
 use Rattle.promise.proofs.SenderRender.{known, withAck, shown-same, repeat-same, point-renders, ack-renders}
+use Rattle.promise.proofs.Clipped.{clips-rule}
 use Rattle.promise.proofs.SenderLeaf.{lookedAt, found-embeds}
 
--- what the sender's calls answer for a reaction: its refusal's number, or the sender with the window
+-- what the sender's calls answer for a reaction: its refusal's number, or the sender with the window and the flag
 abbrev pub heldOf : Reaction → Held
-heldOf o = record { sender = stateOf (o .sender); window = o .window }
+heldOf o = record { sender = stateOf (o .sender); window = o .window; clipped = o .clipped }
 
 unfoldable pub replyOf : Reaction → Reply
 replyOf o = cond (eqb (o .refused) 0) (Taken (heldOf o)) (Refused (o .refused))
 
 -- a reaction that answers, of the sender that stands for it
-pub answered-held : (s : PlainSender) → heldAs (stateOf s) ≡ heldOf (answered s)
-answered-held s = ap (λ (w : ℕ). record { sender = stateOf s; window = w }) (sym (shown-same (s .standing) (windowHeld s)))
+abbrev heldWith : Bool → Sender → Held
+heldWith c s = record { sender = s; window = windowNow s; clipped = c }
 
-answered-reply : (s : PlainSender) → Taken (heldAs (stateOf s)) ≡ replyOf (answered s)
+pub answered-held : (c : Bool) (s : PlainSender) → heldWith c (stateOf s) ≡ heldOf (answeredWith c s)
+answered-held c s = ap (λ (w : ℕ). record { sender = stateOf s; window = w; clipped = c }) (sym (shown-same (s .standing) (windowHeld s)))
+
+answered-reply : (c : Bool) (s : PlainSender) → Taken (heldWith c (stateOf s)) ≡ replyOf (answeredWith c s)
 unfolding replyOf
-answered-reply s = ap Taken (answered-held s)
+answered-reply c s = ap Taken (answered-held c s)
 
 -- 1, 5 and 22
 reply-1 : (s : PlainSender) → replyOf (refuse 1 s) ≡ Refused 1
@@ -75,7 +79,9 @@ module _ (s : PlainSender) (sent received : Float) where
 
   take-reply : (a : Action) (next : Pending) → settled (known s sent received) a (pendingNext (pendingNow s) (ackBy a next)) ≡ replyOf (take s sent received a next)
   take-reply a next =
-      ap (λ (m : Sender). Taken (heldAs m)) (sym (ack-renders s sent received a next)) ∙ answered-reply (withAck s (ackBy a next))
+      let c = clips a (windowHeld s) in
+      ap (λ (b : Bool). Taken (heldWith b (paced (known s sent received) a (pendingNext (pendingNow s) (ackBy a next))))) (sym (clips-rule a (windowHeld s)))
+      ∙ ap (λ (m : Sender). Taken (heldWith c m)) (sym (ack-renders s sent received a next)) ∙ answered-reply c (withAck s (ackBy a next))
 
   -- with nothing pending, a draw's repeat is what comes next
   idle-reply : pendingNow s ≡ Idle → (a : Action) (next : Pending) → settled (known s sent received) a next ≡ replyOf (take s sent received a next)
@@ -154,12 +160,12 @@ send-step s at = go (admitted at)
     after = standWith s (held.At (moment (readAs at)))
 
     go : (b : Bool) → sendAdmitted (stateOf s) (cond b (read.At (moment (readAs at))) (read.Refused 1)) ≡ replyOf (cond b (answered after) (refuse 1 s))
-    go true = answered-reply after
+    go true = answered-reply false after
     go false = sym (reply-1 s)
 
 pub tick-step : (s : PlainSender) → tickOf (stateOf s) ≡ heldOf (react s tick)
 unfolding react
-tick-step s = answered-held (standWith s held.Never)
+tick-step s = answered-held false (standWith s held.Never)
 
 -- ---- a refusal leaves the plain sender as it was, and hands back its number only
 abbrev Stays : PlainSender → Reaction → Type 0
@@ -169,12 +175,12 @@ stays-cond : (s : PlainSender) (b : Bool) (o p : Reaction) → Stays s o → Sta
 stays-cond s true o p h k = h
 stays-cond s false o p h k = k
 
-stays-answered : (s u : PlainSender) → Stays s (answered u)
-stays-answered s u n = absurd (n refl)
+stays-answered : (s : PlainSender) (c : Bool) (u : PlainSender) → Stays s (answeredWith c u)
+stays-answered s c u n = absurd (n refl)
 
 stays-drawn : (s : PlainSender) (sent received : Float) (a : Action) (m : RepeatMode) (draw : Draw) → Stays s (drawFor s sent received a m draw)
 stays-drawn s sent received a m draw =
-    stays-cond s (drawFails m draw) (refuse 5 s) (take s sent received a (drawLeaves m draw a)) (λ n. refl) (stays-answered s _)
+    stays-cond s (drawFails m draw) (refuse 5 s) (take s sent received a (drawLeaves m draw a)) (λ n. refl) (stays-answered s _ _)
 
 stays-looked : (s : PlainSender) (t : Tree) (c : Choice) (sent received : Float) (draw : Draw) → Stays s (lookUp s t c sent received draw)
 unfolding lookUp
@@ -183,7 +189,7 @@ stays-looked s t (leaf i) sent received draw = stays-drawn s sent received (rule
 
 stays-served : (s : PlainSender) (t : Tree) (p : Pending) (sent received : Float) (draw : Draw) → Stays s (serve s t p sent received draw)
 unfolding serve
-stays-served s t (Repeat n a) sent received draw = stays-answered s _
+stays-served s t (Repeat n a) sent received draw = stays-answered s _ _
 stays-served s t Idle sent received draw = stays-looked s t (leafAt t (ackPoint s sent received)) sent received draw
 
 pub refused-stays : (s : PlainSender) (c : SenderCall Tree) → react s c .refused ≢ 0 → react s c ≡ refuse (react s c .refused) s
@@ -191,5 +197,5 @@ unfolding react
 refused-stays s (ack t sent received draw) =
     stays-cond s (admitted sent && admitted received) (serve s t (pendingNow s) (readAs sent) (readAs received) draw) (refuse 1 s)
     (stays-served s t (pendingNow s) (readAs sent) (readAs received) draw) (λ n. refl)
-refused-stays s (send at) = stays-cond s (admitted at) (answered (standWith s (held.At (moment (readAs at))))) (refuse 1 s) (stays-answered s _) (λ n. refl)
-refused-stays s tick = stays-answered s (standWith s held.Never)
+refused-stays s (send at) = stays-cond s (admitted at) (answered (standWith s (held.At (moment (readAs at))))) (refuse 1 s) (stays-answered s _ _) (λ n. refl)
+refused-stays s tick = stays-answered s false (standWith s held.Never)

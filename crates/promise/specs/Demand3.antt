@@ -149,11 +149,11 @@ pub record AckHolds (s : PlainSender) (t : Tree) (sent received : Float) (draw :
 -- a send: 1 exactly where its moment is not admitted; else it stands, and the window is 0
 pub record SendHolds (at : Float) (o : SenderStep) : Type 0 where
   pub unread : (o .event .refused ≡ 1 → admitted at ≡ false) × (admitted at ≡ false → o .event .refused ≡ 1)
-  pub does : admitted at ≡ true → (o .event ≡ event 0 0) × (o .sender .«last_send» ≡ held.At (moment (readAs at)))
+  pub does : admitted at ≡ true → (o .event ≡ event 0 0 false) × (o .sender .«last_send» ≡ held.At (moment (readAs at)))
 
 -- a tick: no send stands, and the window is handed back
 pub record TickHolds (s : PlainSender) (o : SenderStep) : Type 0 where
-  pub answer : o .event ≡ event 0 (windowHeld s)
+  pub answer : o .event ≡ event 0 (windowHeld s) false
   pub standing : o .sender .«last_send» ≡ held.Never
 
 -- a send, a tick or a refused ack

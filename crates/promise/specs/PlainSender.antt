@@ -1,10 +1,11 @@
 -- Document 01's plain sender: the start, the history of taken acks, and the send that stands.
 use mathlib.Core.Bool.{Bool, true, false, not, _&&_, cond}
 use mathlib.Core.List.{List, [], _∷_, _++_, map}
-use Prim.Native.Nat.{ℕ, zero, suc}
+use Prim.Native.Nat.{ℕ, zero, suc, _*_, _/_}
 use lib.Dec.{leb}
-use lib.IntN.{pos}
-use lib.Ieee.{Float, fin, binary64, sub, div, le, lt, eq}
+use lib.IntN.{ℤ, pos, negsuc, negℤ, _+ℤ_}
+use lib.Signed.{leZ}
+use lib.Ieee.{Float, nan, inf, fin, up, down, binary64, mul, ofInt, sub, div, le, lt, eq}
 use Rattle.floats.specs.Average.{average}
 use Rattle.quantities.specs.Time.{span, moment}
 use Rattle.quantities.specs.declared.Time.{Time}
@@ -146,6 +147,25 @@ stateOf s =
       «intersend_delay» = waitHeld s;
     }
 
+-- ---- 02, 6: "whether the product, once cut to whole, left the i32 range or the sum left 0..=1,000,000. NaN counts as clipped"
+abbrev pub within : ℤ → ℤ → ℤ → Bool
+within lo z hi = leZ lo z && leZ z hi
+
+-- a finite product cut to whole
+abbrev pub wholeOf : Bool → ℕ → ℤ → ℤ
+wholeOf s m e = cond s (negℤ (pos (m * up e / down e))) (pos (m * up e / down e))
+
+-- of a product and an increment; an infinite product is in no range
+unfoldable pub clipsAt : Float → ℤ → Bool
+clipsAt nan i = true
+clipsAt (inf s) i = true
+clipsAt (fin s m e) i =
+    not (within (negsuc 2147483647) (wholeOf s m e) (pos 2147483647) && within (pos 0) (wholeOf s m e +ℤ i) (pos 1000000))
+
+-- of an action and the window before it
+abbrev pub clips : Action → ℕ → Bool
+clips a w = clipsAt (mul binary64 (ofInt binary64 (pos w)) (a .«window_multiplier»)) (a .«window_increment»)
+
 -- "The answer is 0 while a send stands, else the window"
 unfoldable pub shown : Moment → ℕ → ℕ
 shown held.Never w = w
@@ -163,17 +183,22 @@ abbrev pub leafAt : Tree → Point → Choice
 leafAt t p = holding t p (leaves t)
 
 -- ---- calls
--- a refusal's number or 0, and the window that is handed back
+-- a refusal's number or 0, the window that is handed back, and whether the ack's window was clipped
 pub record Reaction : Type 0 where
   pub sender : PlainSender
   pub refused : ℕ
   pub window : ℕ
+  pub clipped : Bool
 
 abbrev pub refuse : ℕ → PlainSender → Reaction
-refuse n s = record { sender = s; refused = n; window = 0 }
+refuse n s = record { sender = s; refused = n; window = 0; clipped = false }
 
+abbrev pub answeredWith : Bool → PlainSender → Reaction
+answeredWith c s = record { sender = s; refused = 0; window = shown (s .standing) (windowHeld s); clipped = c }
+
+-- a send and a tick apply no action
 abbrev pub answered : PlainSender → Reaction
-answered s = record { sender = s; refused = 0; window = shown (s .standing) (windowHeld s) }
+answered s = answeredWith false s
 
 -- "A moment is admitted from 0 to 4,294,967,296, both included; -0 is read as +0"
 abbrev pub admitted : Float → Bool
@@ -182,9 +207,10 @@ admitted x = le cube.zero x && le x (fin false 1 (pos 32))
 abbrev pub readAs : Float → Float
 readAs x = cond (eq x cube.zero) cube.zero x
 
+-- a taken ack, clipped by its action and the window before it
 abbrev pub take : PlainSender → Float → Float → Action → Pending → Reaction
 take s sent received a next =
-    answered
+    answeredWith (clips a (windowHeld s))
     (record {
       start = s .start;
       history = s .history ++ (record { sent = sent; received = received; action = a; next = next } ∷ []);

@@ -1,6 +1,6 @@
 -- Demand 3's lists on one sender: acks, sends and ticks, each getting what the last one left, and what is compared of each.
 use mathlib.Core.Path.{_≡_}
-use mathlib.Core.Bool.{true, false}
+use mathlib.Core.Bool.{Bool, true, false}
 use mathlib.Core.List.{List, [], _∷_}
 use Prim.Native.Nat.{ℕ}
 use Rattle.remy.specs.declared.action.Action.{Action}
@@ -19,13 +19,15 @@ use Rattle.sender.specs.SenderCall.{SenderCall, ack, send, tick}
 use Rattle.promise.specs.PlainTree.{Tree, isLeaf, ruleAt}
 use Rattle.promise.specs.PlainSender as plain
 
--- what is compared of a call: its refusal's number or 0, and the window that it hands back, 0 with a refusal
+-- what is compared of a call: its refusal's number or 0, the window that it hands back, 0 with a refusal, and whether an
+-- ack's window was clipped
 pub record SenderEvent : Type 0 where
   pub refused : ℕ
   pub window : ℕ
+  pub clipped : Bool
 
-abbrev pub event : ℕ → ℕ → SenderEvent
-event refused window = record { refused = refused; window = window }
+abbrev pub event : ℕ → ℕ → Bool → SenderEvent
+event refused window clipped = record { refused = refused; window = window; clipped = clipped }
 
 -- ---- the sender's calls, as their contracts have them
 pub record SenderStep : Type 0 where
@@ -33,12 +35,12 @@ pub record SenderStep : Type 0 where
   pub event : SenderEvent
 
 abbrev pub taken : Held → SenderStep
-taken h = record { sender = h .sender; event = event 0 (h .window) }
+taken h = record { sender = h .sender; event = event 0 (h .window) (h .clipped) }
 
 -- "A refusal returns its number only; .. senders .. stay"
 unfoldable pub afterReply : Sender → Reply → SenderStep
 afterReply s (reply.Taken h) = taken h
-afterReply s (reply.Refused k) = record { sender = s; event = event k 0 }
+afterReply s (reply.Refused k) = record { sender = s; event = event k 0 false }
 
 unfoldable pub senderStep : Sender → SenderCall RuleTree → SenderStep
 unfolding afterReply
@@ -64,7 +66,7 @@ plainStart s = record { start = s; history = []; standing = s .«last_send» }
 unfoldable pub plainSenderEvents : plain.PlainSender → List (SenderCall Tree) → List SenderEvent
 plainSenderEvents s [] = []
 plainSenderEvents s (c ∷ cs) =
-    let o = plain.react s c in event (o .refused) (o .window) ∷ plainSenderEvents (o .sender) cs
+    let o = plain.react s c in event (o .refused) (o .window) (o .clipped) ∷ plainSenderEvents (o .sender) cs
 
 unfoldable pub plainSenderEnd : plain.PlainSender → List (SenderCall Tree) → plain.PlainSender
 plainSenderEnd s [] = s
@@ -77,12 +79,13 @@ pub record OneLeaf (t : Tree) (p : Point) (i : ℕ) : Type 0 where
   pub inside : containsOf (plain.cubeIn t i) p ≡ true
   pub only : (j : ℕ) → isLeaf t j ≡ true → containsOf (plain.cubeIn t j) p ≡ true → j ≡ i
 
--- the ack is taken, and the action a sets window and wait
+-- the ack is taken, the action a sets window and wait, and the flag is of the window before the ack
 pub record SetBy (s : plain.PlainSender) (a : Action) (o : SenderStep) : Type 0 where
   pub taken : o .event .refused ≡ 0
   pub window : o .sender .window ≡ windowOf a (plain.windowHeld s)
   pub wait : o .sender .«intersend_delay» ≡ a .«intersend_delay»
   pub answer : o .event .window ≡ plain.shown (s .standing) (windowOf a (plain.windowHeld s))
+  pub clipped : o .event .clipped ≡ plain.clips a (plain.windowHeld s)
 
 -- no repeat is pending and the point is outside the root box
 abbrev pub Outside : plain.PlainSender → Tree → Point → Type 0

@@ -1,4 +1,4 @@
--- An ack gives the window of the sender that it leaves where it is taken, and none elsewhere. Assumes nothing.
+-- An ack gives the window of the sender that it leaves and its action's flag where it is taken, and none elsewhere. Assumes nothing.
 use mathlib.Core.Path.{_≡_, refl, ap, _∙_}
 use mathlib.Core.Bool.{Bool, true, false, _&&_, _||_, cond}
 use Prim.Native.Nat.{ℕ}
@@ -30,10 +30,10 @@ use Rattle.sender.specs.Acks.{windowNow, drawn, repeatNext, settled, ackDrawn, 
 use Rattle.sender.specs.Sender.{ackOf}
 use Rattle.sender_face.specs.Face.{windowFrom}
 use Rattle.sender.specs.Sender.{leftBy}
-use Rattle.refusals.specs.Told.{Told, none, value, replyTold, answerTold}
+use Rattle.refusals.specs.Told.{Told, none, value, Handed, handed, replyTold, answerTold}
 use Rattle.refusal.specs.Guards.{firstOf}
 use Rattle.refusals.specs.Order.{passes, repeats, drawHolds, ackPoint, ackOrder}
-use Rattle.refusals.specs.Gives.{ackGives, actionUsed, ackWindow}
+use Rattle.refusals.specs.Gives.{ackGives, ackClips, actionUsed, ackWindow}
 use Rattle.refusals.proofs.Ways.{Gives, both}
 use Rattle.refusals.proofs.SendersKept.{face-told}
 
@@ -91,7 +91,7 @@ pub ack-gives :
     ≡ cond (passes (ackOrder t s sent received draw)) (ackGives t s sent received draw) none
 unfolding replyTold leftBy
 ack-gives t s sent received draw =
-    ack-ways (λ (r : Reply) (n : ℕ). replyTold r .gives ≡ cond (eqb n 0) (value (windowNow (leftBy s r))) none) (λ k e. rw e) t s sent received draw
+    ack-ways (λ (r : Reply) (n : ℕ). replyTold r .gives ≡ cond (eqb n 0) (value (handed (windowNow (leftBy s r)) (ackClips t s sent received))) none) (λ k e. rw e) t s sent received draw
     (λ next. refl)
 
 pub ack-window :
@@ -107,4 +107,4 @@ pub face-ack-gives :
     → answerTold (windowFrom (ackOf t s sent received draw)) .gives
     ≡ cond (passes (ackOrder t s sent received draw)) (ackGives t s sent received draw) none
 face-ack-gives t s sent received draw =
-    ap (λ (r : Told ℕ). r .gives) (face-told (ackOf t s sent received draw)) ∙ ack-gives t s sent received draw
+    ap (λ (r : Told Handed). r .gives) (face-told (ackOf t s sent received draw)) ∙ ack-gives t s sent received draw

@@ -7,6 +7,7 @@ pub mod Senders
 pub mod SendersKept
 pub mod Panels
 pub mod TrainersGive
-pub mod PanelsGive
 pub mod SendersGive
 pub mod AcksGive
+pub mod SmallTrees
+pub mod EvenRows

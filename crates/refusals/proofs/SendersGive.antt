@@ -14,7 +14,7 @@ use Rattle.sender.specs.declared.Made.{Made}
 use Rattle.sender.specs.Acks.{windowIn}
 use Rattle.sender.specs.Sender.{modeHolds, newOf, sendAdmitted, sendOf, wakeIn, wakeAdmitted, wakeOf}
 use Rattle.sender_face.specs.Face.{windowFrom}
-use Rattle.refusals.specs.Told.{Told, none, admittedTold, madeTold, replyTold, wakeTold, answerTold}
+use Rattle.refusals.specs.Told.{Told, Handed, none, admittedTold, madeTold, replyTold, wakeTold, answerTold}
 use Rattle.refusal.specs.Guards.{firstOf}
 use Rattle.refusals.specs.Order.{passes, admitOrder, madeOrder, sendOrder, wakeOrder}
 use Rattle.refusals.specs.Gives.{admitGives, madeGives, sendGives, wakeAfter, wakeGives}
@@ -34,7 +34,7 @@ unfolding sendAdmitted admitOf windowIn replyTold firstOf
 send-gives s at = both (Gives (λ (m : Admitted). replyTold (sendAdmitted s m) .gives) sendGives) (admitted at) refl refl
 
 pub face-send-gives : (s : Sender) (at : Float) → answerTold (windowFrom (sendOf s at)) .gives ≡ cond (passes (sendOrder at)) sendGives none
-face-send-gives s at = ap (λ (r : Told ℕ). r .gives) (face-told (sendOf s at)) ∙ send-gives s at
+face-send-gives s at = ap (λ (r : Told Handed). r .gives) (face-told (sendOf s at)) ∙ send-gives s at
 
 wake-in-gives : (s : Sender) (m : Moment) (now : Time) → wakeTold (wakeIn s m now) .gives ≡ wakeAfter m (s .«intersend_delay») now
 unfolding wakeIn wakeTold wakeAfter

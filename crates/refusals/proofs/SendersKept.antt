@@ -10,7 +10,7 @@ use Rattle.sender.specs.declared.Reply.the-variants.{Taken, Refused}
 use Rattle.sender.specs.Sender.{ackOf, sendOf}
 use Rattle.sender_face.specs.Face.{windowFrom}
 use Rattle.sender.specs.Sender.{leftBy}
-use Rattle.refusals.specs.Told.{Told, replyTold, answerTold}
+use Rattle.refusals.specs.Told.{Told, Handed, replyTold, answerTold}
 use Rattle.refusal.specs.Guards.{firstOf}
 use Rattle.refusals.specs.Order.{ackOrder, sendOrder}
 use Rattle.refusals.proofs.Senders.{send-number, ack-number}
@@ -39,13 +39,13 @@ pub ack-keeps :
 ack-keeps t s sent received draw = left-keeps s (ackOf t s sent received draw)
 
 pub face-send-number : (s : Sender) (at : Float) → answerTold (windowFrom (sendOf s at)) .number ≡ firstOf (sendOrder at)
-face-send-number s at = ap (λ (r : Told ℕ). r .number) (face-told (sendOf s at)) ∙ send-number s at
+face-send-number s at = ap (λ (r : Told Handed). r .number) (face-told (sendOf s at)) ∙ send-number s at
 
 pub face-ack-number :
     (t : RuleTree) (s : Sender) (sent received : Float) (draw : Draw)
     → answerTold (windowFrom (ackOf t s sent received draw)) .number ≡ firstOf (ackOrder t s sent received draw)
 face-ack-number t s sent received draw =
-    ap (λ (r : Told ℕ). r .number) (face-told (ackOf t s sent received draw)) ∙ ack-number t s sent received draw
+    ap (λ (r : Told Handed). r .number) (face-told (ackOf t s sent received draw)) ∙ ack-number t s sent received draw
 
 pub face-send-keeps :
     (s : Sender) (at : Float) → (answerTold (windowFrom (sendOf s at)) .number ≡ 0 → ⊥) → leftBy s (sendOf s at) ≡ s

@@ -1,5 +1,5 @@
 -- 01: what each call whose answer is an enum gives where it is taken.
-use mathlib.Core.Bool.{Bool, not, cond}
+use mathlib.Core.Bool.{Bool, false, not, cond}
 use mathlib.Core.List.{List}
 use Prim.Native.Nat.{ℕ}
 use lib.ListN.{length, getD}
@@ -11,7 +11,7 @@ use Rattle.quantities.specs.Time.{moment, readMoment, moved, laterOf}
 use Rattle.remy.specs.declared.action.Action.{Action}
 use Rattle.remy.specs.declared.point.Point.{Point}
 use Rattle.remy.specs.declared.cube.Cube.{Cube}
-use Rattle.remy.specs.Action.{windowOf}
+use Rattle.remy.specs.Action.{windowOf, ruleOf}
 use Rattle.remy.specs.Cube.{rootOf, containsOf}
 use Rattle.rule_tree.specs.declared.Node.{Node}
 use Rattle.rule_tree.specs.declared.RuleTree.{RuleTree}
@@ -31,7 +31,7 @@ use Rattle.trainer.specs.Candidates.{candidatesOf, noCandidate}
 use Rattle.trainer.specs.State.{leafAction}
 use Rattle.trainer.specs.Calls.{progressOf}
 use Rattle.record.specs.Write.{recordOf}
-use Rattle.panel_lines.specs.Panel.{linesOf}
+use Rattle.panel_lines.specs.Panel.{textOf}
 use Rattle.sender.specs.declared.Moment.{Moment}
 use Rattle.sender.specs.declared.Moment.the-variants as moments
 use Rattle.sender.specs.declared.Pending.{Pending}
@@ -42,8 +42,8 @@ use Rattle.sender.specs.declared.Sender.{Sender}
 use Rattle.sender.specs.Acks.{windowIn, windowNow}
 use Rattle.sender.specs.Sender.{freshSender, ackOf}
 use Rattle.sender.specs.Sender.{leftBy}
-use Rattle.refusals.specs.Told.{Given, none, value, Picked, Asks, counts, score, done}
-use Rattle.refusals.specs.Order.{panelTree, panelCounts, ackPoint}
+use Rattle.refusals.specs.Told.{Given, none, value, Handed, handed, Picked, Asks, counts, score, done}
+use Rattle.refusals.specs.Order.{ackPoint}
 
 -- ---- the tree
 abbrev pub domainGives : RuleTree → ℕ → Given Cube
@@ -105,7 +105,7 @@ abbrev pub saveGives : Trainer → Given ℕ
 saveGives t = value (length (recordOf t))
 
 abbrev pub panelGives : List ℕ → Given ℕ
-panelGives input = value (length (linesOf (panelTree input) (panelCounts input)))
+panelGives input = value (length (textOf input))
 
 -- ---- moments and the sender
 abbrev pub admitGives : Float → Given Time
@@ -114,24 +114,30 @@ admitGives x = value (moment (readMoment x))
 abbrev pub madeGives : RepeatMode → Given Sender
 madeGives mode = value (freshSender mode)
 
--- "The answer is 0 while a send stands, else the window": of the sender that is left
-abbrev pub ackGives : RuleTree → Sender → Float → Float → Draw → Given ℕ
-ackGives t s sent received draw = value (windowNow (leftBy s (ackOf t s sent received draw)))
-
 -- "With a repeat pending its action is used, no lookup"
 unfoldable pub actionUsed : Pending → Action → Action
 actionUsed Idle found = found
 actionUsed (Repeat left a) found = a
 
--- the same window, from the action that the ack uses
-abbrev pub ackWindow : RuleTree → Sender → Float → Float → Given ℕ
-ackWindow t s sent received =
-    let a = actionUsed (s .«next_change») (actionIn (nodeAt (t .nodes) (leafOf t (ackPoint s sent received)))) in
-    value (windowIn (s .«last_send») (windowOf a (s .window)))
+abbrev pub ackAction : RuleTree → Sender → Float → Float → Action
+ackAction t s sent received = actionUsed (s .«next_change») (actionIn (nodeAt (t .nodes) (leafOf t (ackPoint s sent received))))
 
--- "so 0 after a send"
-abbrev pub sendGives : Given ℕ
-sendGives = value 0
+-- 02, 6: whether that action clips the window that the sender held
+abbrev pub ackClips : RuleTree → Sender → Float → Float → Bool
+ackClips t s sent received = ruleOf (ackAction t s sent received) (s .window) .clipped
+
+-- "The answer is 0 while a send stands, else the window": of the sender that is left
+abbrev pub ackGives : RuleTree → Sender → Float → Float → Draw → Given Handed
+ackGives t s sent received draw = value (handed (windowNow (leftBy s (ackOf t s sent received draw))) (ackClips t s sent received))
+
+-- the same window, from the action that the ack uses
+abbrev pub ackWindow : RuleTree → Sender → Float → Float → Given Handed
+ackWindow t s sent received =
+    value (handed (windowIn (s .«last_send») (windowOf (ackAction t s sent received) (s .window))) (ackClips t s sent received))
+
+-- "so 0 after a send", which clips nothing
+abbrev pub sendGives : Given Handed
+sendGives = value (handed 0 false)
 
 -- "Next wake: the greater of now and send + wait, or none"
 unfoldable pub wakeAfter : Moment → TimeSpan → Time → Given Time

@@ -2,11 +2,11 @@
 use mathlib.Core.Path.{_≡_}
 use mathlib.Core.Bool.{Bool, true, false, not, _&&_, _||_}
 use mathlib.Core.List.{List, [], _∷_}
-use Prim.Native.Nat.{ℕ, _*_}
+use Prim.Native.Nat.{ℕ}
 use lib.ListN.{length}
 use lib.Dec.{eqb, leb}
 use lib.Ieee.{Float}
-use Rattle.refusal.specs.Numbers.{badCounts, badField, badLength, badSettings, fullTree, noDraw, noLeaf, noRule, notAdmitted, notAsked, notGrown, shortBuffer, unknownVersion}
+use Rattle.refusal.specs.Numbers.{badCounts, badSettings, fullTree, noDraw, noLeaf, noRule, notAdmitted, notAsked, notGrown}
 use Rattle.refusal.specs.Guards.{Test, test, firstOf}
 use Rattle.quantities.specs.Time.{moment, readMoment, admitted}
 use Rattle.remy.specs.declared.action.Action.{Action}
@@ -23,9 +23,6 @@ use Rattle.rule_tree_view.specs.View.{parentsIn, lentTree}
 use Rattle.trainer.specs.declared.Trainer.{Trainer}
 use Rattle.trainer.specs.State.{acceptedOf}
 use Rattle.trainer.specs.Calls.{wantsCounts}
-use Rattle.record.specs.Read.{readOf}
-use Rattle.record.specs.Calls.{versionHolds, bodyHolds}
-use Rattle.panel_lines.specs.Panel.{recordPart, countsPart, countsIn, startHolds, linesOf}
 use Rattle.sender.specs.declared.Pending.{Pending}
 use Rattle.sender.specs.declared.Pending.the-variants.{Idle, Repeat}
 use Rattle.sender.specs.declared.RepeatMode.{RepeatMode}
@@ -61,20 +58,6 @@ abbrev pub answerCountsOrder : Trainer → List ℕ → List Test
 answerCountsOrder t xs =
     test (acceptedOf t) notGrown ∷ test (wantsCounts (t .phase)) notAsked ∷ test (countsHold (t .tree) xs) badCounts
     ∷ test (not (splitsOn t xs && leb 64 (t .tree .splits))) fullTree ∷ []
-
--- ---- the panel: "6, 7, 8, in the panel then 4"
--- the tree of the panel's record, and its counts
-abbrev pub panelTree : List ℕ → RuleTree
-panelTree input = readOf (recordPart input) .tree
-
-abbrev pub panelCounts : List ℕ → List ℕ
-panelCounts input = countsIn (countsPart input) (nodeCount (panelTree input .splits))
-
-abbrev pub panelOrder : List ℕ → List ℕ → List Test
-panelOrder input out =
-    test (startHolds input) badLength ∷ test (versionHolds (recordPart input)) unknownVersion ∷ test (bodyHolds (recordPart input)) badField
-    ∷ test (eqb (length (countsPart input)) (8 * nodeCount (panelTree input .splits)) && countsHold (panelTree input) (panelCounts input)) badCounts
-    ∷ test (leb (length (linesOf (panelTree input) (panelCounts input))) (length out)) shortBuffer ∷ []
 
 -- ---- moments and the sender: "1, 22, 5"
 abbrev pub admitOrder : Float → List Test

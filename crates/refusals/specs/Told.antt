@@ -25,8 +25,6 @@ use Rattle.trainer.specs.declared.Question.{Question}
 use Rattle.trainer.specs.declared.Question.the-variants as question
 use Rattle.record.specs.declared.Saved.{Saved}
 use Rattle.record.specs.declared.Saved.the-variants as saved
-use Rattle.panel_lines.specs.declared.Shown.{Shown}
-use Rattle.panel_lines.specs.declared.Shown.the-variants as shown
 use Rattle.sender.specs.declared.Sender.{Sender}
 use Rattle.sender.specs.declared.Reply.{Reply}
 use Rattle.sender.specs.declared.Reply.the-variants as reply
@@ -119,10 +117,6 @@ unfoldable pub savedTold : Saved → Told ℕ
 savedTold (saved.Size n) = gave n
 savedTold (saved.Refused k) = refusedWith k
 
-unfoldable pub shownTold : Shown → Told ℕ
-shownTold (shown.Size n) = gave n
-shownTold (shown.Refused k) = refusedWith k
-
 -- ---- moments and the sender
 unfoldable pub admittedTold : Admitted → Told Time
 admittedTold (admitted.At t) = gave t
@@ -132,9 +126,16 @@ unfoldable pub madeTold : Made → Told Sender
 madeTold (made.Ready s) = gave s
 madeTold (made.Refused k) = refusedWith k
 
--- the window that is handed back
-unfoldable pub replyTold : Reply → Told ℕ
-replyTold (reply.Taken h) = gave (h .window)
+-- the window that is handed back, and whether an ack's was clipped
+pub record Handed : Type 0 where
+  pub window : ℕ
+  pub clipped : Bool
+
+abbrev pub handed : ℕ → Bool → Handed
+handed window clipped = record { window = window; clipped = clipped }
+
+unfoldable pub replyTold : Reply → Told Handed
+replyTold (reply.Taken h) = gave (handed (h .window) (h .clipped))
 replyTold (reply.Refused k) = refusedWith k
 
 -- "Next wake: .., or none"
@@ -143,6 +144,6 @@ wakeTold (wake.At t) = gave t
 wakeTold wake.Never = gaveNone
 wakeTold (wake.Refused k) = refusedWith k
 
-unfoldable pub answerTold : Answer → Told ℕ
-answerTold (answer.Window w) = gave w
+unfoldable pub answerTold : Answer → Told Handed
+answerTold (answer.Window w clipped) = gave (handed w clipped)
 answerTold (answer.Refused k) = refusedWith k

@@ -1,6 +1,7 @@
 // The calls, each with the lines that it prints.
 use crate::input;
 use crate::lines;
+use crate::trees;
 use record::Saved;
 use rule_tree::AugmentedRuleTree;
 use rule_tree::Changed;
@@ -285,6 +286,24 @@ fn equal(r: Replay, fields: &[u8], out: &mut [u8]) -> Replay {
     printed(r, at)
 }
 
+// The window rule alone, of an action and a window.
+fn apply(r: Replay, fields: &[u8], out: &mut [u8]) -> Replay {
+    let action = input::action_at(fields, 0);
+    let window = input::word_at(fields, 20) as u32;
+    let at = lines::applied(out, r.at, action.applied(window));
+    printed(r, at)
+}
+
+fn next_list(r: Replay, fields: &[u8], out: &mut [u8]) -> Replay {
+    let at = trees::next_list(out, r.at, fields);
+    printed(r, at)
+}
+
+fn even_row(r: Replay, fields: &[u8], out: &mut [u8]) -> Replay {
+    let at = trees::even_row(out, r.at, fields);
+    printed(r, at)
+}
+
 fn trainer_call(r: Replay, code: u8, fields: &[u8], out: &mut [u8]) -> Replay {
     match code {
         1 => answer_counts(r, fields, out),
@@ -320,6 +339,9 @@ pub(crate) fn call(r: Replay, code: u8, fields: &[u8], out: &mut [u8]) -> Replay
     match code {
         1 | 2 | 3 | 13 => trainer_call(r, code, fields, out),
         4 | 5 | 6 | 7 => sender_call(r, code, fields, out),
+        22 => apply(r, fields, out),
+        25 => even_row(r, fields, out),
+        26 => next_list(r, fields, out),
         _ => tree_call(r, code, fields, out),
     }
 }

@@ -169,15 +169,15 @@ pub(crate) fn numbers_at(bytes: &[u8]) -> [u64; 600] {
     numbers
 }
 
-// How many bytes follow a call's code; for codes 1, 13 and 14 those that say how many more do.
+// How many bytes follow a call's code; for codes 1, 13, 14 and 26 those that say how many more do.
 fn head_size(code: u8) -> usize
     ensures { λ r. ⌜ r ≤ 46 ⌝ }
 {
     match code {
-        1 | 3 => 2,
+        1 | 3 | 26 => 2,
         2 | 5 | 7 => 8,
         4 => 21,
-        8 | 10 | 11 => 24,
+        8 | 10 | 11 | 22 | 25 => 24,
         9 => 46,
         13 | 14 => 4,
         _ => 0,
@@ -185,7 +185,7 @@ fn head_size(code: u8) -> usize
 }
 
 fn known(code: u8) -> bool {
-    (1 <= code && code <= 14) || code == 17
+    (1 <= code && code <= 14) || code == 17 || code == 22 || code == 25 || code == 26
 }
 
 // A call whose fields are the next n bytes, at most so many.
@@ -193,6 +193,18 @@ fn fields(bytes: &mut [u8], code: u8, n: usize, most: usize) -> Next {
     if n <= most {
         if fill(bytes, n) {
             return Next::Call(code, n);
+        }
+    }
+    Next::Bad
+}
+
+// A call of a split list: its head stays, and the nodes come after it.
+fn list_fields(bytes: &mut [u8], code: u8) -> Next {
+    let n = 2 * byte_at(bytes, 1) as usize;
+    let k = within(2 + n, bytes);
+    if 2 <= k {
+        if io::read_full(0, &mut bytes[2..k]) == n {
+            return Next::Call(code, k);
         }
     }
     Next::Bad
@@ -207,6 +219,9 @@ fn call_of(bytes: &mut [u8], code: u8) -> Next {
     if code == 13 || code == 14 {
         let n = word_at(bytes, 0) as usize;
         return fields(bytes, code, n, 16500);
+    }
+    if code == 26 {
+        return list_fields(bytes, code);
     }
     Next::Call(code, head_size(code))
 }

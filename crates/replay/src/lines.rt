@@ -1,6 +1,7 @@
 // The lines, and the parts that they are made of.
 use crate::output;
 use remy::action::Action;
+use remy::action::Applied;
 use rule_tree::Compared;
 use rule_tree::Domain;
 use rule_tree::Looked;
@@ -33,6 +34,14 @@ pub(crate) fn refused(out: &mut [u8], at: usize, number: u32) -> usize {
 
 pub(crate) fn window(out: &mut [u8], at: usize, w: u32) -> usize {
     number_line(out, at, b"window", w)
+}
+
+// What the window rule gives, and 1 where it clipped.
+pub(crate) fn applied(out: &mut [u8], at: usize, a: Applied) -> usize {
+    let flag = if a.clipped { 1 } else { 0 };
+    let next = output::named(out, at, b"applied", a.window as u64);
+    let next = output::number(out, next, flag);
+    output::end_line(out, next)
 }
 
 // Words alone.

@@ -9,6 +9,7 @@ mod calls;
 mod input;
 mod lines;
 mod output;
+mod trees;
 
 // The settings and the repeat.
 const HEADER: usize = 146;

@@ -1,6 +1,7 @@
 -- The words of a sender, part by part. Assumes nothing.
 use mathlib.Core.Path.{_≡_, ap}
 use mathlib.Core.List.{List, [], _∷_}
+use mathlib.Core.Bool.{Bool}
 use Prim.Native.Nat.{ℕ, _≤_}
 use lib.ListN.{length}
 use lib.Ieee.{Float}
@@ -18,6 +19,7 @@ use Rattle.sender.specs.declared.Pending.the-variants as pending
 use Rattle.sender.specs.declared.RepeatMode.{RepeatMode}
 use Rattle.sender.specs.declared.RepeatMode.the-variants.{Off, Always, Between}
 use Rattle.sender.specs.declared.Sender.{Sender}
+use Rattle.wire.specs.Bytes.{flagByte}
 use Rattle.runs.specs.SenderWords.{bits, actionWords, modeWords, momentWords, averageWords, tripWords, pendingWords, senderWords}
 use Rattle.runs.specs.Turn.{Puts}
 use Rattle.runs.proofs.Putting.{then, room, spelt}
@@ -70,9 +72,12 @@ module _ (out : List ℕ) (at : ℕ) (h : at ≤ length out) {n last : ℕ} {mid
   unfolding pendingWords
   repeat-words e p q = rw e (then out at h p q)
 
-pub last-spelt : (out : List ℕ) (at : ℕ) (wait : Float) {x y w n : ℕ} {after : List ℕ} → w ≡ bits wait → Puts out at (x ∷ (y ∷ (w ∷ []))) n after
-    → Puts out at (x ∷ (y ∷ (bits wait ∷ []))) n after
-last-spelt out at wait {x} {y} e p = spelt out at (ap (λ (z : ℕ). x ∷ (y ∷ (z ∷ []))) e) p
+-- a number, a window, a flag and a wait
+pub reaction-words : (out : List ℕ) (at : ℕ) (clipped : Bool) (wait : Float) {x y f w n m : ℕ} {mid after : List ℕ} → at ≤ length out
+    → f ≡ flagByte clipped → w ≡ bits wait → Puts out at (x ∷ (y ∷ (f ∷ []))) n mid → Puts mid n (w ∷ []) m after
+    → Puts out at (x ∷ (y ∷ (flagByte clipped ∷ (bits wait ∷ [])))) m after
+reaction-words out at clipped wait {x} {y} {f} h e d p q =
+    spelt out at ((λ i. x ∷ (y ∷ (e i ∷ (d i ∷ []))))) (then out at h p q)
 
 -- ---- one part after the other
 pub all-parts : (s : Sender) (out : List ℕ) (at : ℕ) {a b c d e f g k last wait : ℕ} {o p q t u v w x after : List ℕ} → at ≤ length out

@@ -34,6 +34,7 @@ use Rattle.promise.specs.PlainTrainer as plain
 use Rattle.promise.specs.Demand3.{afterCall, reloaded, stepOf}
 use Rattle.promise.specs.SenderRuns.{SenderStep, afterReply, senderStep}
 use Rattle.sender.specs.SenderCall as runs
+use Rattle.wire.specs.Bytes.{flagByte}
 use Rattle.runs.specs.declared.calls.Trained.{Trained}
 use Rattle.runs.specs.declared.calls.Reacted.{Reacted}
 use Rattle.runs.specs.declared.State.{State}
@@ -143,12 +144,12 @@ module _ (t : Trainer) (out : List ℕ) (at : ℕ) (h : at ≤ length out) where
 
 -- ---- calls to the sender
 module _ (s : Sender) (out : List ℕ) (at : ℕ) where
-  pub taken : (h : Held) {answer : Reply} {end : ℕ} {after : List ℕ} → answer ≡ reply.Taken h → Puts out at (0 ∷ (h .window ∷ (bits (h .sender .«intersend_delay» .0) ∷ []))) end after
+  pub taken : (h : Held) {answer : Reply} {end : ℕ} {after : List ℕ} → answer ≡ reply.Taken h → Puts out at (0 ∷ (h .window ∷ (flagByte (h .clipped) ∷ (bits (h .sender .«intersend_delay» .0) ∷ [])))) end after
       → Moves out at (afterReply s answer) (record { sender = h .sender; at = end }) after
   unfolding afterReply
   taken h e p = rw e (record { sender = refl; puts = p })
 
-  pub refused : (k : ℕ) {answer : Reply} {end : ℕ} {after : List ℕ} → answer ≡ reply.Refused k → Puts out at (k ∷ (0 ∷ (bits (s .«intersend_delay» .0) ∷ []))) end after
+  pub refused : (k : ℕ) {answer : Reply} {end : ℕ} {after : List ℕ} → answer ≡ reply.Refused k → Puts out at (k ∷ (0 ∷ (0 ∷ (bits (s .«intersend_delay» .0) ∷ [])))) end after
       → Moves out at (afterReply s answer) (record { sender = s; at = end }) after
   unfolding afterReply
   refused k e p = rw e (record { sender = refl; puts = p })

@@ -3,6 +3,7 @@ use mathlib.Core.Bool.{Bool, true, _&&_, cond}
 use mathlib.Core.List.{List, [], _∷_, _++_}
 use Prim.Native.Nat.{ℕ}
 use lib.ListN.{length, take, drop}
+use Rattle.wire.specs.Bytes.{flagByte}
 use Rattle.trainer.specs.declared.settings.Settings.{Settings}
 use Rattle.sender.specs.declared.Sender.{Sender}
 use Rattle.sender.specs.SenderCall as runs
@@ -24,9 +25,10 @@ askedWords (plain.finished x) = 3 ∷ (bits x ∷ [])
 abbrev pub outcomeWords : plain.Outcome → List ℕ
 outcomeWords o = o .refused ∷ (length (o .saved) ∷ (o .saved ++ askedWords (plain.question (o .state))))
 
--- a call to the sender: its refusal's number or 0, the window that it hands back, and the wait that the sender then holds
+-- a call to the sender: its refusal's number or 0, the window that it hands back, 1 where that of an ack was clipped and else 0, and
+-- the wait that the sender then holds
 abbrev pub reactionWords : Reaction → List ℕ
-reactionWords o = o .refused ∷ (o .window ∷ (bits (waitHeld (o .sender) .0) ∷ []))
+reactionWords o = o .refused ∷ (o .window ∷ (flagByte (o .clipped) ∷ (bits (waitHeld (o .sender) .0) ∷ [])))
 
 -- a lookup: 1 and the action of the leaf that holds the point, or 0
 unfoldable pub foundWords : Tree → Choice → List ℕ

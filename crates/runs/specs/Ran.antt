@@ -12,6 +12,7 @@ use Rattle.trainer.specs.declared.Question.{Question}
 use Rattle.trainer.specs.declared.Question.the-variants as question
 use Rattle.trainer.specs.Settings.{settingsHold}
 use Rattle.trainer.specs.Calls.{startOf, questionOf}
+use Rattle.wire.specs.Bytes.{flagByte}
 use Rattle.record.specs.declared.Saved.{Saved}
 use Rattle.record.specs.declared.Saved.the-variants as saved
 use Rattle.record.specs.Calls.{saveOf, bufferAfter}
@@ -35,7 +36,7 @@ abbrev pub stepWords : Step → List ℕ
 stepWords o = o .refused ∷ (o .size ∷ (o .saved ++ questionWords (questionOf (o .trainer))))
 
 abbrev pub moveWords : SenderStep → List ℕ
-moveWords o = o .event .refused ∷ (o .event .window ∷ (bits (o .sender .«intersend_delay» .0) ∷ []))
+moveWords o = o .event .refused ∷ (o .event .window ∷ (flagByte (o .event .clipped) ∷ (bits (o .sender .«intersend_delay» .0) ∷ [])))
 
 unfoldable pub lookedWords : Looked → List ℕ
 lookedWords (looked.Found a) = 1 ∷ actionWords a

@@ -137,12 +137,12 @@ fn react(s: Sender, reply: Reply, out: &mut [u64], at: usize) -> Reacted
         Reply::Taken(held) => {
             let sender = held.sender;
             let wait = sender.intersend_delay.0;
-            let end = words::put_reaction(out, at, 0, held.window, wait);
+            let end = words::put_reaction(out, at, 0, held.window, held.clipped, wait);
             Reacted { sender, at: end }
         }
         Reply::Refused(number) => {
             let wait = s.intersend_delay.0;
-            let end = words::put_reaction(out, at, number, 0, wait);
+            let end = words::put_reaction(out, at, number, 0, false, wait);
             Reacted { sender: s, at: end }
         }
     }

@@ -5,6 +5,7 @@ ghost use Prim.Native.Nat.{_≤_};
 ghost use lib.ListN.{length};
 ghost use mir.Syntax.{w32};
 ghost use mir.Val.{ofZ};
+ghost use Rattle.wire.specs.Bytes.{flagByte};
 ghost use Rattle.runs.specs.SenderWords.{bits, actionWords, modeWords, momentWords, averageWords, tripWords, pendingWords, senderWords};
 ghost use Rattle.runs.specs.Ran.{questionWords, lookedWords};
 ghost use Rattle.runs.specs.Turn.{Puts};
@@ -18,6 +19,7 @@ use sender::RepeatMode;
 use sender::Rtt;
 use sender::Sender;
 use trainer::Question;
+use wire::inner::write::flag_of;
 
 pub(crate) fn put(out: &mut [u64], at: usize, x: u64) -> usize
     requires { ⌜ at ≤ length (now out) ⌝ }
@@ -115,24 +117,21 @@ pub(crate) fn put_looked(out: &mut [u64], at: usize, found: Looked) -> usize
     put_action(out, next, a)
 }
 
-// A refusal's number or 0, the window that is handed back, and the wait that is held.
+// A refusal's number or 0, the window that is handed back, whether it was clipped, and the wait that is held.
 pub(crate) fn put_reaction(
     out: &mut [u64],
     at: usize,
     refused: u32,
     window: u32,
+    clipped: bool,
     wait: f64,
 ) -> usize
     requires { ⌜ at ≤ length (now out) ⌝ }
-    ensures { λ r. ⌜ Puts (now (out .entry)) at (refused ∷ (window ∷ (bits wait ∷ []))) r (now (out .exit)) ⌝ }
+    ensures { λ r. ⌜ Puts (now (out .entry)) at (refused ∷ (window ∷ (flagByte clipped ∷ (bits wait ∷ [])))) r (now (out .exit)) ⌝ }
 {
-    put_three(
-        out,
-        at,
-        refused as u64,
-        window as u64,
-        floats::to_bits(wait),
-    )
+    let flag = flag_of(clipped) as u64;
+    let next = put_three(out, at, refused as u64, window as u64, flag);
+    put(out, next, floats::to_bits(wait))
 }
 
 fn put_mode(out: &mut [u64], at: usize, mode: RepeatMode) -> usize

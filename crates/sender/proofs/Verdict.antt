@@ -8,7 +8,7 @@ use Rattle.quantities.specs.declared.Time.{Time}
 use Rattle.quantities.specs.declared.Admitted.the-variants as admitted
 use Rattle.quantities.specs.Time.{admitOf}
 use Rattle.remy.specs.declared.action.Action.{Action}
-use Rattle.remy.specs.Action.{windowOf}
+use Rattle.remy.specs.Action.{windowOf, ruleOf}
 use Rattle.remy.specs.Cube.{rootOf, containsOf}
 use Rattle.rule_tree.specs.declared.RuleTree.{RuleTree}
 use Rattle.rule_tree.specs.Nodes.{nodeAt, actionIn}
@@ -59,6 +59,7 @@ pub record Paced (s : Sender) (a : Action) (h : Held) : Type 0 where
   pub window : h .sender .window ≡ windowOf a (s .window)
   pub wait : h .sender .«intersend_delay» ≡ a .«intersend_delay»
   pub shown : h .window ≡ windowIn (s .«last_send») (windowOf a (s .window))
+  pub clipped : h .clipped ≡ ruleOf a (s .window) .clipped
 
 -- ---- each case leads to its answer
 module _ (t : RuleTree) (s : Sender) (from at : Time) (draw : Draw) where
@@ -88,8 +89,12 @@ module _ (t : RuleTree) (s : Sender) (from at : Time) (draw : Draw) where
   at-by (repeated e) = ap (λ (p : Pending). ackPending t m p draw) e
   at-by (found e i n) = at-inside e i ∙ ap (ackDrawn m (leafAction t s from at)) n
 
-  paced-so : (a : Action) (next : Pending) → Paced s a (record { sender = paced m a next; window = windowNow (paced m a next) })
-  paced-so a next = record { window = refl; wait = refl; shown = refl }
+  -- the sender after a taken ack, with its window and its flag
+  abbrev held : Action → Pending → Held
+  held a next = record { sender = paced m a next; window = windowNow (paced m a next); clipped = ruleOf a (s .window) .clipped }
+
+  paced-so : (a : Action) (next : Pending) → Paced s a (held a next)
+  paced-so a next = record { window = refl; wait = refl; shown = refl; clipped = refl }
 
   -- ---- one of the three is the case
   data Answer : Reply → Type 0 where
@@ -157,8 +162,7 @@ module _ (t : RuleTree) (s : Sender) (sent received : Float) (draw : Draw) (from
     -- else it is taken, and sets the window and the wait by the pending action or by the leaf's
     pub taken-by : {a : Action} {next : Pending} → By t s from at draw a next → (h : Held) × (ackIn t s sent received draw ≡ Taken h) × Paced s a h
     taken-by {a} {next} b =
-        let m = paced (remembered s from at) a next in
-        (record { sender = m; window = windowNow m }, is ∙ at-by t s from at draw b, paced-so t s from at draw a next)
+        (held t s from at draw a next, is ∙ at-by t s from at draw b, paced-so t s from at draw a next)
 
     pub taken-only : (h : Held) → ackIn t s sent received draw ≡ Taken h → (a : Action) × (next : Pending) × By t s from at draw a next × Paced s a h
     taken-only h e = only-taken t s from at draw h (answer t s from at draw) (sym is ∙ e)

@@ -9,7 +9,7 @@ use Rattle.quantities.specs.declared.Admitted.{Admitted}
 use Rattle.quantities.specs.declared.Admitted.the-variants as admitted
 use Rattle.quantities.specs.Time.{admitOf}
 use Rattle.remy.specs.declared.action.Action.{Action}
-use Rattle.remy.specs.Action.{windowOf}
+use Rattle.remy.specs.Action.{windowOf, ruleOf}
 use Rattle.rule_tree.specs.declared.RuleTree.{RuleTree}
 use Rattle.rule_tree.specs.declared.Looked.{Looked}
 use Rattle.rule_tree.specs.declared.Looked.the-variants as looked
@@ -67,9 +67,11 @@ paced s a next =
       «intersend_delay» = a .«intersend_delay»;
     }
 
--- the action sets window and wait
+-- the action sets window and wait; 02, 6: "The window rule shall also say whether", "The flag goes up through ack":
+-- of the window that the sender held before the ack, also where a send stands
 abbrev pub settled : Sender → Action → Pending → Reply
-settled s a next = Taken (record { sender = paced s a next; window = windowNow (paced s a next) })
+settled s a next =
+    Taken (record { sender = paced s a next; window = windowNow (paced s a next); clipped = ruleOf a (s .window) .clipped })
 
 -- with what the draw made of the action
 unfoldable pub ackDrawn : Sender → Action → Drawn → Reply

@@ -1,5 +1,5 @@
 -- What each public call on a sender answers, refusals first and in 01's order.
-use mathlib.Core.Bool.{Bool, true, _&&_, cond}
+use mathlib.Core.Bool.{Bool, true, false, _&&_, cond}
 use mathlib.Core.List.{[], _∷_}
 use lib.Dec.{leb}
 use lib.Ieee.{Float}
@@ -82,8 +82,9 @@ withLastSend s m =
 abbrev pub withSend : Sender → Time → Sender
 withSend s at = withLastSend s (moment.At at)
 
+-- a send and a tick apply no action, so nothing is clipped
 abbrev pub heldAs : Sender → Held
-heldAs s = record { sender = s; window = windowNow s }
+heldAs s = record { sender = s; window = windowNow s; clipped = false }
 
 -- send: 1; the answer "by the rule just given, so 0 after a send"
 unfoldable pub sendAdmitted : Sender → Admitted → Reply

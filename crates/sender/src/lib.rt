@@ -66,10 +66,11 @@ pub struct Sender {
     pub intersend_delay: TimeSpan,
 }
 
-// A sender after a call, with the window that the call answers.
+// A sender after a call, with the window that the call answers and whether its action's window was clipped.
 pub struct Held {
     pub sender: Sender,
     pub window: u32,
+    pub clipped: bool,
 }
 
 pub enum Reply {
@@ -113,7 +114,11 @@ impl Sender {
             return Reply::Refused(refusal::NOT_ADMITTED);
         };
         let sender = inner::memory::with_send(self, t);
-        Reply::Taken(Held { sender, window: 0 })
+        Reply::Taken(Held {
+            sender,
+            window: 0,
+            clipped: false,
+        })
     }
 
     // A tick: no send stands any more.
@@ -122,7 +127,11 @@ impl Sender {
     {
         let sender = inner::memory::with_last_send(self, Moment::Never);
         let window = inner::memory::window_now(sender);
-        Held { sender, window }
+        Held {
+            sender,
+            window,
+            clipped: false,
+        }
     }
 
     // An event, over a tree.

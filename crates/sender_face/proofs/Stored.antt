@@ -41,8 +41,11 @@ abbrev pub machR : Answer → Val
 machR w = LE.val R.the-type R′.the-laws w
 
 -- what a call hands back is an answer's value
-pub window-is : (d : Held) → Is O.the-row d (machO d ∷ []) → Is R.the-row (Window (d .window)) (machR (Window (d .window)) ∷ [])
-window-is d g = LE.owes R.the-type R′.the-laws (Window (d .window)) (LL.owed O.the-type O′.the-laws d _ g .1 .0, tt)
+abbrev pub told : Held → Answer
+told d = Window (d .window) (d .clipped)
+
+pub window-is : (d : Held) → Is O.the-row d (machO d ∷ []) → Is R.the-row (told d) (machR (told d) ∷ [])
+window-is d g = let is = LL.owed O.the-type O′.the-laws d _ g in LE.owes R.the-type R′.the-laws (told d) (is .1 .0, (is .1 .1 .0, tt))
 
 pub number-is : (k : ℕ) → k < 2 ^ 32 → Is R.the-row (Refused k) (machR (Refused k) ∷ [])
 number-is k fits = LE.owes R.the-type R′.the-laws (Refused k) ((refl, fits), tt)

@@ -7,7 +7,7 @@ use Rattle.sender_face.specs.declared.Answer.the-variants.{Window, Refus
 -- "change the caller's sender": the sender left is `leftBy` of the reply, so that a refused call changes nothing
 unfoldable pub use Rattle.sender.specs.Sender.{leftBy}
 
--- "hand back the window", or the refusal's number
+-- "hand back the window", 02, 6: "The flag goes up through ack", or the refusal's number
 unfoldable pub windowFrom : Reply → Answer
-windowFrom (reply.Taken h) = Window (h .window)
+windowFrom (reply.Taken h) = Window (h .window) (h .clipped)
 windowFrom (reply.Refused k) = Refused k

@@ -9,9 +9,9 @@ use sender::Moment;
 use sender::Reply;
 use sender::Sender;
 
-// The window that a call answers, or the refusal's number.
+// The window that a call answers and whether its action's window was clipped, or the refusal's number.
 pub enum Answer {
-    Window(u32),
+    Window(u32, bool),
     Refused(u32),
 }
 
@@ -23,7 +23,7 @@ pub fn packet_sent(s: &mut Sender, at: f64) -> Answer
     match v.packet_sent(at) {
         Reply::Taken(held) => {
             s.last_send = held.sender.last_send;
-            Answer::Window(held.window)
+            Answer::Window(held.window, held.clipped)
         }
         Reply::Refused(n) => Answer::Refused(n),
     }
@@ -44,7 +44,7 @@ pub fn ack_received(s: &mut Sender, tree: RuleTree, sent: f64, received: f64, dr
             s.next_change = held.sender.next_change;
             s.window = held.sender.window;
             s.intersend_delay = held.sender.intersend_delay;
-            Answer::Window(held.window)
+            Answer::Window(held.window, held.clipped)
         }
         Reply::Refused(k) => Answer::Refused(k),
     }

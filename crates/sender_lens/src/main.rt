@@ -39,12 +39,15 @@ fn start(title: &[u8], mode: RepeatMode) -> Sender {
     }
 }
 
-// The window that a call answers, and what is left of a pending repeat; then the sender that the call leaves.
+// The window that a call answers, whether it was clipped, and what is left of a pending repeat; then the sender that the call leaves.
 fn answered(s: Sender, r: Reply) -> Sender {
     match r {
         Reply::Taken(h) => {
             say(b"  window ");
             number(h.window);
+            if h.clipped {
+                say(b", clipped");
+            }
             let next = h.sender;
             let pending = next.next_change;
             if let Pending::Repeat(left, _) = pending {
@@ -243,6 +246,51 @@ fn fast_radio() {
     event(r, narrow, Event::Ack(0.0, 0.5, Draw::Absent));
 }
 
+// An ack over a tree of one leaf, by a multiplier and an increment, of a sender whose window is given.
+fn rule(s: Sender, window: u32, multiplier: f64, increment: i32) {
+    let mut held = s;
+    held.window = window;
+    let action = Action::new(multiplier, increment, 0.25);
+    let tree = RuleTree::new(Point::usual_ends(), action).tree;
+    let r = held.ack_received(tree, 0.0, 1.0, Draw::Absent);
+    answered(held, r);
+}
+
+// Sums at and beyond both ends, and products that are cut to whole at and beyond those of i32.
+fn clipped() {
+    let s = start(
+        b"sums of 1000000, 1000001, 0, -1, and of -0.9 cut to 0",
+        RepeatMode::Off,
+    );
+    rule(s, 500000, 1.0, 500000);
+    rule(s, 500000, 1.0, 500001);
+    rule(s, 5, 1.0, -5);
+    rule(s, 5, 1.0, -6);
+    rule(s, 1, -0.9, 0);
+    let p = start(
+        b"products 1e300, infinite, and 0; a pending action whose multiplier is NaN",
+        RepeatMode::Off,
+    );
+    rule(p, 1, 1e300, -1000000);
+    rule(p, 4294967295, 1e300 * 1e8, 0);
+    rule(p, 0, 1e300, 7);
+    let still = Action::new(1.0, 0, 0.25);
+    let pending = Pending::Repeat(0, Action::new(0.0 / 0.0, 7, 0.25));
+    let q = answered(p, sender::inner::acks::settle(p, still, pending));
+    ack(q, 10, 0.0, 1.0, Draw::Absent);
+    let r = start(
+        b"a repeat is clipped, while a send stands too; a tick and a send are not",
+        RepeatMode::Always(1),
+    );
+    let r1 = ack(r, 600000, 0.0, 1.0, Draw::Absent);
+    let r2 = ack(r1, 10, 1.0, 2.0, Draw::Absent);
+    let r3 = send(r2, 2.0);
+    let r4 = ack(r3, 10, 2.0, 3.0, Draw::Absent);
+    let tree = RuleTree::new(Point::usual_ends(), Action::new(1.0, -1, 0.25)).tree;
+    let r5 = event(r4, tree, Event::Tick);
+    ack(r5, -1, 3.0, 4.0, Draw::Absent);
+}
+
 fn main() {
     draw_zero();
     no_round_trip();
@@ -253,4 +301,5 @@ fn main() {
     sends_and_wakes();
     events();
     fast_radio();
+    clipped();
 }

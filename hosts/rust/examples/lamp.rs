@@ -68,12 +68,12 @@ fn main() -> Result<(), Box<dyn std::error::Error>> {
         let sent = f64::from(i) * 0.02;
         let events = [Event::Send { at: sent }, Event::Tick, Event::Ack { sent, received: sent + 0.05, draw: None }];
         match sender.run(&trainer, &events)[2] {
-            Ok(window) => println!("ack {i}: window {window}, wait {:.2} ms", 1000.0 * sender.wait()),
+            Ok(reply) => println!("ack {i}: window {}, wait {:.2} ms", reply.window, 1000.0 * sender.wait()),
             Err(refusal) => println!("ack {i}: {refusal}"),
         }
     }
     match sender.ack(&trainer, 1.0, f64::NAN, None) {
-        Ok(window) => println!("window {window}"),
+        Ok(reply) => println!("window {}", reply.window),
         Err(refusal) => println!("{refusal}"),
     }
     Ok(())

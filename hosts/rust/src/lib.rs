@@ -39,6 +39,7 @@ impl fmt::Display for Refusal {
             22 => "no rule for this ack",
             23 => "a total that is full",
             24 => "no split to take back",
+            30 => "no list of so many splits that grows a tree",
             _ => "an unknown refusal",
         };
         write!(f, "refused {}: {}", self.0, words)
@@ -182,6 +183,8 @@ pub struct Trainer {
 const RECORD_MOST: usize = 11_076;
 const CANDIDATES_MOST: usize = 4096;
 const GROUP_MOST: usize = 65535;
+const LIST_MOST: usize = 7;
+const EVEN_ROWS: usize = 64;
 
 impl Trainer {
     pub fn start(settings: &Settings) -> Result<Self, Refusal> {
@@ -312,7 +315,7 @@ impl Trainer {
             .collect()
     }
 
-    /// The panel's lines: the share of each leaf, in thousandths.
+    /// The panel's lines: the share of each leaf, in thousandths that add up to 1000 (or all 0 where no count is above 0).
     pub fn panel(&self, counts: &[u64]) -> Result<String, Refusal> {
         let mut input = self.record.clone();
         input.extend(counts_bytes(counts));
@@ -373,6 +376,13 @@ impl Event {
     }
 }
 
+/// What a taken event hands back: the window, 0 while a send stands, and whether an ack's window was clipped.
+#[derive(Clone, Copy, Debug, PartialEq, Eq)]
+pub struct Reply {
+    pub window: u32,
+    pub clipped: bool,
+}
+
 /// A sender, in the 108 bytes that docs/HOSTS.md lays out.
 #[derive(Clone, Debug, PartialEq, Eq)]
 pub struct Sender {
@@ -408,28 +418,45 @@ impl Sender {
         float(&self.bytes[100..])
     }
 
-    /// Each event in turn over the trainer's tree: the window handed back, or the refusal, after which the
-    /// sender is as it was before that event.
-    pub fn run(&mut self, trainer: &Trainer, events: &[Event]) -> Vec<Result<u32, Refusal>> {
+    /// Each event in turn over the trainer's tree: its reply, or the refusal, after which the sender is as it
+    /// was before that event.
+    pub fn run(&mut self, trainer: &Trainer, events: &[Event]) -> Vec<Result<Reply, Refusal>> {
         let list: Vec<u8> = events.iter().flat_map(|e| e.to_bytes()).collect();
         let sender = &mut self.bytes;
-        let out = written(5 * events.len(), |out| raw::events(&trainer.record, sender, &list, out));
+        let out = written(6 * events.len(), |out| raw::events(&trainer.record, sender, &list, out));
         let out = out.expect("a trainer's record is accepted");
-        out.chunks(5)
+        out.chunks(6)
             .map(|r| match r[0] {
-                0 => Ok(u32::from_be_bytes(r[1..].try_into().unwrap())),
+                0 => Ok(Reply { window: u32::from_be_bytes(r[1..5].try_into().unwrap()), clipped: r[5] == 1 }),
                 n => Err(Refusal(n.into())),
             })
             .collect()
     }
 
-    pub fn ack(&mut self, trainer: &Trainer, sent: f64, received: f64, draw: Option<u32>) -> Result<u32, Refusal> {
+    pub fn ack(&mut self, trainer: &Trainer, sent: f64, received: f64, draw: Option<u32>) -> Result<Reply, Refusal> {
         self.run(trainer, &[Event::Ack { sent, received, draw }])[0]
     }
 }
 
 fn float(bytes: &[u8]) -> f64 {
     f64::from_bits(u64::from_be_bytes(bytes.try_into().unwrap()))
+}
+
+/// The list of splits after another, among all that grow a tree by at most n splits, n at most 3: shorter ones first, then
+/// by their nodes. The first is the empty list; after the last there is none.
+pub fn next_list(n: u32, list: &[u16]) -> Result<Option<Vec<u16>>, Refusal> {
+    let length = u8::try_from(list.len()).map_err(|_| Refusal(30))?;
+    let bytes: Vec<u8> = [length].into_iter().chain(list.iter().flat_map(|node| node.to_be_bytes())).collect();
+    let out = written(LIST_MOST, |out| raw::next_list(n, &bytes, out))?;
+    let nodes = |b: &[u8]| b.chunks(2).map(|b| u16::from_be_bytes(b.try_into().unwrap())).collect();
+    Ok(out.split_first().map(|(_, b)| nodes(b)))
+}
+
+/// The row of the even tree that holds a point: the root split, then nodes 1 to 8 in order, 64 rows from node 9 on. A host
+/// that keeps 64 actions, one a row, has a tree's lookup without a tree.
+pub fn even_row(point: Point) -> Option<usize> {
+    let row = size(raw::even_row(&point.to_bytes())).expect("a whole point");
+    (row < EVEN_ROWS).then_some(row)
 }
 
 fn counts_bytes(counts: &[u64]) -> Vec<u8> {

@@ -32,6 +32,8 @@ mod c {
             events_len: usize, out: *mut u8, out_len: usize,
         ) -> u64;
         pub fn knellstone_panel(input: *const u8, input_len: usize, out: *mut u8, out_len: usize) -> u64;
+        pub fn knellstone_next_list(n: u32, list: *const u8, list_len: usize, out: *mut u8, out_len: usize) -> u64;
+        pub fn knellstone_even_row(point: *const u8, point_len: usize) -> u64;
     }
 }
 
@@ -111,4 +113,12 @@ pub fn events(record: &[u8], sender: &mut [u8], events: &[u8], out: &mut [u8]) -
 
 pub fn panel(input: &[u8], out: &mut [u8]) -> u64 {
     unsafe { c::knellstone_panel(input.as_ptr(), input.len(), out.as_mut_ptr(), out.len()) }
+}
+
+pub fn next_list(n: u32, list: &[u8], out: &mut [u8]) -> u64 {
+    unsafe { c::knellstone_next_list(n, list.as_ptr(), list.len(), out.as_mut_ptr(), out.len()) }
+}
+
+pub fn even_row(point: &[u8]) -> u64 {
+    unsafe { c::knellstone_even_row(point.as_ptr(), point.len()) }
 }

@@ -1,6 +1,6 @@
 //! What is excluded is refused by its number, and then nothing has changed.
 
-use knellstone::{Action, Answer, Event, Point, Question, Refusal, RepeatMode, Sender, Settings, Trainer};
+use knellstone::{even_row, next_list, Action, Answer, Event, Point, Question, Refusal, RepeatMode, Reply, Sender, Settings, Trainer};
 
 fn fresh() -> Trainer {
     Trainer::start(&Settings::default()).unwrap()
@@ -188,13 +188,41 @@ fn events() {
     ];
     assert_eq!(sender.run(&trainer, &refused), [Err(Refusal(22)), Err(Refusal(1)), Err(Refusal(1))]);
     assert_eq!(sender, before);
-    assert_eq!(sender.ack(&trainer, 0.0, 0.05, None), Ok(2));
-    assert_eq!(sender.run(&trainer, &[Event::Send { at: 0.1 }, Event::Tick]), [Ok(0), Ok(2)]);
+    let window = |window| Ok(Reply { window, clipped: false });
+    assert_eq!(sender.ack(&trainer, 0.0, 0.05, None), window(2));
+    assert_eq!(sender.run(&trainer, &[Event::Send { at: 0.1 }, Event::Tick]), [window(0), window(2)]);
     assert_eq!(sender.run(&trainer, &[]), []);
     let mut drawn = Sender::new(RepeatMode::Between(1, 2)).unwrap();
     assert_eq!(drawn.ack(&trainer, 0.0, 0.05, None), Err(Refusal(5)));
     assert_eq!(drawn.ack(&trainer, 0.0, 0.05, Some(0)), Err(Refusal(5)));
-    assert_eq!(drawn.ack(&trainer, 0.0, 0.05, Some(2)), Ok(2));
+    assert_eq!(drawn.ack(&trainer, 0.0, 0.05, Some(2)), window(2));
+}
+
+#[test]
+fn clipped() {
+    let trainer = fresh();
+    // The default action adds 1: a window of 999,999 comes to 1,000,000, one of 1,000,000 is clipped.
+    let holding = |window: u32| {
+        let mut bytes = *Sender::new(RepeatMode::Always(1)).unwrap().bytes();
+        bytes[96..100].copy_from_slice(&window.to_be_bytes());
+        Sender::from_bytes(bytes)
+    };
+    let ack = |sent: f64| Event::Ack { sent, received: sent + 0.05, draw: None };
+    let reply = |window, clipped| Ok(Reply { window, clipped });
+    let mut sender = holding(999_999);
+    let events = [ack(0.0), ack(0.1), Event::Send { at: 0.2 }, ack(0.2), Event::Tick, ack(f64::NAN)];
+    assert_eq!(
+        sender.run(&trainer, &events),
+        [
+            reply(1_000_000, false),
+            reply(1_000_000, true),
+            reply(0, false),
+            reply(0, true),
+            reply(1_000_000, false),
+            Err(Refusal(1)),
+        ]
+    );
+    assert_eq!(holding(u32::MAX).run(&trainer, &[Event::Tick]), [reply(u32::MAX, false)]);
 }
 
 #[test]
@@ -203,4 +231,35 @@ fn panel() {
     assert_eq!(fresh().panel(&[0]).unwrap(), "leaves 1 splits 0\n0 0\n");
     assert_eq!(fresh().panel(&[]), Err(Refusal(4)));
     assert_eq!(fresh().panel(&[1, 1]), Err(Refusal(4)));
+    let mut split = Trainer::start(&Settings { rounds: 0, ..Settings::default() }).unwrap();
+    split.answer_counts(&[1]).unwrap();
+    assert_eq!(
+        split.panel(&[0, 1, 0, 1, 0, 1, 0, 0, 0]).unwrap(),
+        "leaves 8 splits 1\n1 334\n2 0\n3 333\n4 0\n5 333\n6 0\n7 0\n8 0\n"
+    );
+    assert_eq!(split.panel(&[1, 1, 0, 1, 0, 1, 0, 0, 0]), Err(Refusal(4)));
+}
+
+#[test]
+fn every_small_tree_in_turn() {
+    for (n, many) in [(0, 1), (1, 2), (2, 10), (3, 130)] {
+        let mut lists = vec![Vec::new()];
+        while let Some(next) = next_list(n, lists.last().unwrap()).unwrap() {
+            lists.push(next);
+        }
+        assert_eq!(lists.len(), many);
+    }
+    for (n, list) in [(4, &[][..]), (2, &[0, 1, 2]), (3, &[1]), (3, &[0, 4, 4]), (3, &[0, 4, 17]), (3, &[0; 256])] {
+        assert_eq!(next_list(n, list), Err(Refusal(30)), "{n} {list:?}");
+    }
+}
+
+#[test]
+fn rows_of_the_even_tree() {
+    let row = |ack_ewma, send_ewma, rtt_ratio| even_row(Point { ack_ewma, send_ewma, rtt_ratio });
+    assert_eq!(row(0.0, 0.0, 0.0), Some(0));
+    assert_eq!(row(150.0, 300.0, 500.0), Some(28));
+    assert_eq!(row(599.0, 599.0, 999.0), Some(63));
+    assert_eq!(row(600.0, 0.0, 0.0), None);
+    assert_eq!(row(0.0, f64::NAN, 0.0), None);
 }

@@ -1,7 +1,7 @@
 //! The host library answers the stored scripts with the lines that the originals gave (vectors/README.md).
 //! Lines of calls that the library doesn't have (wakes, tallies) are passed over, and of a tree's lines the cubes.
 
-use knellstone::{Action, Event, Point, Question, Refusal, Sender, Trainer};
+use knellstone::{even_row, next_list, Action, Event, Point, Question, Refusal, Sender, Trainer};
 use std::{fs, path::Path};
 
 struct Script<'a> {
@@ -144,7 +144,7 @@ fn call(script: &mut Script, trainer: &mut Trainer, sender: &mut Sender) -> Resu
                 5 => Event::Send { at: script.float()? },
                 _ => Event::Tick,
             };
-            let line = sender.run(trainer, &[event])[0].map_or_else(refused, |w| format!("window {w}"));
+            let line = sender.run(trainer, &[event])[0].map_or_else(refused, |r| format!("window {}", r.window));
             Gives::Lines(vec![line, sender_line(sender)])
         }
         8 => Gives::Lines(vec![found(trainer.lookup(&[script.point()?])[0])]),
@@ -182,7 +182,7 @@ fn call(script: &mut Script, trainer: &mut Trainer, sender: &mut Sender) -> Resu
             Gives::Lines(vec![Trainer::load(script.take(n)?).map_or_else(refused, same)])
         }
         7 => script.take(8).map(|_| Gives::Passes)?,
-        10 => script.take(24).map(|_| Gives::Passes)?,
+        10 | 22 => script.take(24).map(|_| Gives::Passes)?,
         12 => Gives::Tree(trainer.clone()),
         17 => {
             let mut copy = trainer.clone();
@@ -191,6 +191,20 @@ fn call(script: &mut Script, trainer: &mut Trainer, sender: &mut Sender) -> Resu
                 Err(Refusal(3)) => Gives::Passes,
                 Err(r) => Gives::Lines(vec![refused(r)]),
             }
+        }
+        25 => {
+            let row = even_row(script.point()?);
+            Gives::Lines(vec![row.map_or("none".into(), |row| format!("row {row}"))])
+        }
+        26 => {
+            let (n, length) = (script.number(1)? as u32, script.number(1)?);
+            let list = (0..length).map(|_| script.number(2).map(|node| node as u16)).collect::<Result<Vec<_>, _>>()?;
+            let line = match next_list(n, &list) {
+                Ok(Some(next)) => next.iter().fold("next".into(), |line, node| format!("{line} {node}")),
+                Ok(None) => "last".into(),
+                Err(r) => refused(r),
+            };
+            Gives::Lines(vec![line])
         }
         _ => return Err(Bad),
     })

@@ -64,8 +64,7 @@ pub(crate) fn rooted<T: 'static>(mut list: Vec<T>) -> Vec<T> {
     if let (Some([ack, send, ratio]), Some(nodes)) = (ENDS.get(), nodes) {
         for node in nodes {
             if let RuleTreeNode::Leaf { domain, .. } = node {
-                domain.max =
-                    Point { ack_ewma: seconds(ack), send_ewma: seconds(send), rtt_ratio: ratio };
+                domain.max = Point { ack_ewma: seconds(ack), send_ewma: seconds(send), rtt_ratio: ratio };
             }
         }
     }

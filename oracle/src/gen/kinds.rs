@@ -6,13 +6,13 @@ use super::{
     author::Author,
     records::unchecked,
     values::{
-        self, bad_action, calm_header, edge_ends, edge_settings, near_action, small_settings, step,
-        valid_action, vary_settings,
+        self, any_float, bad_action, calm_header, edge_ends, edge_float, edge_settings, near_action,
+        small_settings, step, valid_action, vary_settings,
     },
     Dice, KINDS,
 };
 use crate::{
-    plain::{Ack, Phase, Point, Sender, Trainer},
+    plain::{even_tree, next_list, split_lists, Ack, Phase, Point, Sender, Trainer},
     rust::of_settings,
     script::{repeat, Call, Writer},
 };
@@ -409,7 +409,10 @@ pub fn limits(dice: Dice) -> Vec<u8> {
 
 /// A script of another kind that is cut, or goes on with what is no call.
 pub fn cut(mut dice: Dice) -> Vec<u8> {
-    let others: Vec<_> = KINDS.iter().filter(|(name, _)| !["cut", "undo", "ends"].contains(name)).collect();
+    let others: Vec<_> = KINDS
+        .iter()
+        .filter(|(name, _)| !["cut", "undo", "ends", "apply", "lists", "even"].contains(name))
+        .collect();
     let (_, author) = others[dice.below(others.len())];
     let mut script = author(Dice(dice.next()));
     if dice.one_in(2) {
@@ -559,4 +562,126 @@ fn ack_at_ends(author: &mut Author) -> Ack {
         _ => sent + shortest,
     };
     Ack { sent, received, draw: author.any_ack().draw }
+}
+
+/// The window rule alone, mostly at the ends of its ranges: sums about 0 and 1,000,000, products about those of i32, and actions that
+/// are not valid.
+pub fn apply(dice: Dice) -> Vec<u8> {
+    let mut author = Author::small(dice);
+    for _ in 0..author.dice.within(10, 120) {
+        let dice = &mut author.dice;
+        let window = match dice.below(6) {
+            0 => dice.pick(&[0, 1, 2, 999_999, 1_000_000, 1_000_001, 2_147_483_647, 2_147_483_648, u32::MAX]),
+            1 => dice.next() as u32,
+            _ => dice.below(1_000_001) as u32,
+        };
+        let mut action = valid_action(dice);
+        match dice.below(8) {
+            0 => action.increment = 1_000_001 - dice.below(3) as i32 - window.min(1_000_000) as i32,
+            1 => action.increment = 1 - dice.below(3) as i32 - window.min(1_000_000) as i32,
+            2 => action.multiplier = dice.pick(&[f64::NAN, f64::INFINITY, f64::NEG_INFINITY]),
+            3 => action.multiplier = step(2_147_483_648.0 / f64::from(window.max(1)), dice),
+            4 => action.multiplier = step(-2_147_483_649.0 / f64::from(window.max(1)), dice),
+            5 => action.increment = dice.next() as i32,
+            6 => action.multiplier = -dice.unit() / f64::from(window.max(1)),
+            _ => {}
+        }
+        if dice.one_in(2) && (action.increment.unsigned_abs() > 100 || window < 100) {
+            action.multiplier = 1.0;
+        }
+        author.call(Call::Apply(action, window));
+        if author.dice.one_in(10) {
+            author.aside();
+        }
+    }
+    author.done()
+}
+
+/// Every small tree in turn: from a list on, for some steps or to the last; and lists that are none of them.
+pub fn lists(dice: Dice) -> Vec<u8> {
+    let mut author = Author::small(dice);
+    for _ in 0..author.dice.within(2, 6) {
+        match author.dice.below(6) {
+            0 | 1 => {
+                let n = author.dice.pick(&[0, 1, 2, 3]);
+                let steps = author.dice.pick(&[2, 20, 150]);
+                walk(&mut author, n, Vec::new(), steps);
+            }
+            2 => {
+                let (n, lists) = (author.dice.pick(&[0, 1, 2, 3]), split_lists(3));
+                let list = lists[author.dice.below(lists.len())].clone();
+                walk(&mut author, n, list, 12);
+            }
+            3 | 4 => {
+                let n = author.dice.pick(&[0, 1, 2, 3, 3, 3, 3, 4, 255]);
+                let list = no_list(&mut author.dice);
+                author.call(Call::NextList(n, list));
+            }
+            _ => author.aside(),
+        }
+    }
+    let mut script = author.writer.bytes;
+    if author.dice.one_in(8) {
+        script.extend([26, 3, 2, 0, 0, 0]);
+    }
+    script
+}
+
+/// Each list that is given is asked for the next.
+fn walk(author: &mut Author, n: u8, mut list: Vec<u16>, steps: usize) {
+    for _ in 0..steps {
+        author.call(Call::NextList(n, list.clone()));
+        match next_list(n, &list) {
+            Ok(Some(next)) => list = next,
+            _ => break,
+        }
+    }
+}
+
+/// Mostly none of the lists, by little.
+fn no_list(dice: &mut Dice) -> Vec<u16> {
+    let lists = split_lists(3);
+    let mut list = lists[dice.below(lists.len())].clone();
+    match dice.below(6) {
+        0 => list.push(dice.below(26) as u16),
+        1 => list = (0..dice.within(0, 4)).map(|_| dice.below(18) as u16).collect(),
+        2 => list.resize(dice.pick(&[4, 5, 127, 255]), 1),
+        3 if !list.is_empty() => list[0] = dice.pick(&[0, 1, 9, u16::MAX]),
+        4 if list.len() > 1 => list[1] = dice.pick(&[0, 8, 9, 256]),
+        _ if list.len() > 2 => list[2] = dice.pick(&[0, list[1], 16, 17, 272]),
+        _ => {}
+    }
+    list
+}
+
+/// Rows of the even tree: at the ends and middles of its cubes, beside them, and anywhere.
+pub fn even(dice: Dice) -> Vec<u8> {
+    let mut author = Author::small(dice);
+    let tree = even_tree();
+    for _ in 0..author.dice.within(2, 60) {
+        let cube = tree.nodes[author.dice.below(tree.nodes.len())].cube;
+        let style = author.dice.below(6);
+        let dice = &mut author.dice;
+        let point = std::array::from_fn(|axis| {
+            let (min, max) = (cube.min[axis], cube.max[axis]);
+            let end = dice.pick(&[min, max, (min + max) / 2.0]);
+            match style {
+                0 => min,
+                1 => end,
+                2 => step(end, dice),
+                3 if dice.one_in(3) => any_float(dice),
+                4 if dice.one_in(3) => edge_float(dice),
+                _ => min + (max - min) * dice.unit(),
+            }
+        });
+        author.call(Call::EvenRow(point));
+        if author.dice.one_in(12) {
+            author.aside();
+        }
+    }
+    let mut script = author.writer.bytes;
+    if author.dice.one_in(8) {
+        script.extend(vec![25; author.dice.within(1, 24)]);
+    }
+    script
 }

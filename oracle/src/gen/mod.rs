@@ -23,6 +23,9 @@ pub const KINDS: &[(&str, fn(Dice) -> Vec<u8>)] = &[
     ("mixed", kinds::mixed),
     ("undo", kinds::undo),
     ("ends", kinds::ends),
+    ("apply", kinds::apply),
+    ("lists", kinds::lists),
+    ("even", kinds::even),
 ];
 
 /// None where there is no such kind.

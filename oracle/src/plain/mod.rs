@@ -1,12 +1,16 @@
 //! Document 01, sentence by sentence, in plain Rust. Nothing here is taken from the originals: the driver
 //! holds the two against each other.
 
+mod even;
+mod lists;
 mod record;
 mod sender;
 mod settings;
 mod trainer;
 mod tree;
 
+pub use even::{even_row, even_tree};
+pub use lists::{next_list, split_lists, tree_of};
 pub use sender::{Ack, Repeat, Sender};
 pub use settings::{Settings, USUAL_ENDS};
 pub use trainer::{Answer, Change, Phase, Trainer};
@@ -113,5 +117,13 @@ impl Action {
 
     pub fn apply_to(&self, window: u32) -> u32 {
         self.window_sum(window).clamp(0, 1_000_000) as u32
+    }
+
+    /// Document 02, request 6: the product, once cut to whole, left the i32 range or the sum left 0..=1,000,000; NaN
+    /// lies in no range.
+    pub fn clips(&self, window: u32) -> bool {
+        let whole = (f64::from(window) * self.multiplier).trunc();
+        let fits = (-2_147_483_648.0..=2_147_483_647.0).contains(&whole);
+        !fits || !(0..=1_000_000).contains(&(whole as i64 + i64::from(self.increment)))
     }
 }

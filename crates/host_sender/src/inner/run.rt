@@ -6,7 +6,7 @@ ghost use lib.ListN.{length};
 ghost use lib.Seq.{sets};
 ghost use Rattle.rule_tree.specs.Grown.{grownOf};
 ghost use Rattle.host_sender.specs.Events.{drawAt, eventAt, senderAfter, replyBytes, repliesBytes, senderLeft, repliesLeft};
-ghost use Rattle.host_sender.specs.Parts.{codeOf, shownBy, eventsFit};
+ghost use Rattle.host_sender.specs.Parts.{codeOf, shownBy, clippedBy, eventsFit};
 use crate::inner::read::read_sender;
 use crate::inner::write::write_sender;
 use record::Saved;
@@ -26,6 +26,7 @@ use wire::inner::read::byte_at;
 use wire::inner::read::flag_at;
 use wire::inner::read::float_at;
 use wire::inner::read::word_at;
+use wire::inner::write::flag_of;
 use wire::inner::write::put;
 
 fn draw_at(bytes: &[u8], at: usize) -> Draw
@@ -74,18 +75,30 @@ fn shown_by(reply: Reply) -> u32
     }
 }
 
+// Whether an ack's window was clipped.
+fn clipped_by(reply: Reply) -> bool
+    ensures { λ r. ⌜ r ≡ clippedBy reply ⌝ }
+{
+    match reply {
+        Reply::Taken(h) => h.clipped,
+        Reply::Refused(_) => false,
+    }
+}
+
 fn put_reply(out: &mut [u8], at: usize, reply: Reply)
-    requires { ⌜ at + 5 ≤ length (now out) ⌝ }
+    requires { ⌜ at + 6 ≤ length (now out) ⌝ }
     ensures { λ _. ⌜ now (out .exit) ≡ sets (now (out .entry)) at (replyBytes reply) ⌝ }
 {
     let window = shown_by(reply) as u64;
+    let flag = flag_of(clipped_by(reply));
     out[at] = code_of(reply);
     put(out, at + 1, 4, window);
+    out[at + 5] = flag;
 }
 
 // The sender after the first n events, whose replies are put into out. The links are gathered once, and each event reads one node.
 fn run(tree: RuleTree, s: Sender, list: &[u8], n: usize, out: &mut [u8]) -> Sender
-    requires { ⌜ (grownOf tree ≡ true) × (22 * n ≤ length (now list)) × (5 * n ≤ length (now out)) ⌝ }
+    requires { ⌜ (grownOf tree ≡ true) × (22 * n ≤ length (now list)) × (6 * n ≤ length (now out)) ⌝ }
     ensures { λ r. ⌜ (r ≡ senderAfter tree s (now (list .entry)) n) × (now (out .exit) ≡ sets (now (out .entry)) 0 (repliesBytes tree s (now (list .entry)) n)) ⌝ }
 {
     let ends = tree.ends;
@@ -102,7 +115,7 @@ fn run(tree: RuleTree, s: Sender, list: &[u8], n: usize, out: &mut [u8]) -> Send
         let x = tree.nodes[node];
         let a = x.action();
         let reply = answer(asked, a, draw_of(e));
-        put_reply(out, 5 * i, reply);
+        put_reply(out, 6 * i, reply);
         left = left_by(left, reply);
         i += 1;
     }
@@ -119,7 +132,7 @@ fn replies_size(sender: usize, list: usize, out: usize) -> Saved
     if list % 22 != 0 {
         return Saved::Refused(refusal::BAD_LENGTH);
     }
-    let size = 5 * (list / 22);
+    let size = 6 * (list / 22);
     if size <= out {
         return Saved::Size(size);
     }

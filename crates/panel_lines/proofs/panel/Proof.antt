@@ -1,5 +1,6 @@
 -- `panel_lines::panel` meets its contract. Assumes nothing.
 use Rattle.panel_lines.proofs.Ways as law
+use Rattle.panel_lines.proofs.Nested.{start-fits}
 use native.Mathlib.Omega.{arith}
 use mathlib.Core.Path.{sym, ap, _∙_}
 use Prim.Native.Nat.{ℕ}
@@ -22,16 +23,16 @@ part-load-start : tie.Need-part-load-start
 part-load-start c = search needs
 
 part-load-end : tie.Need-part-load-end
-part-load-end c = omega (arith, law.start-fits (c .before .before .before .before .before .args .input .now) (sym (c .before .before .start-holds .ensures) ∙ c .before .if1 .taken), c .record-size .ensures)
+part-load-end c = omega (arith, start-fits (c .before .before .before .before .before .args .input .now) (sym (c .before .before .start-holds .ensures) ∙ c .before .if1 .taken), c .record-size .ensures)
 
 load-requires : tie.Need-load-requires
 load-requires c κs = search needs
 
 sub-counts-shown : tie.Need-sub-counts-shown
-sub-counts-shown c = omega (arith, law.start-fits (c .before .before .before .before .before .before .before .before .before .before .before .args .input .now) (sym (c .before .before .before .before .before .before .before .before .start-holds .ensures) ∙ c .before .before .before .before .before .before .before .if1 .taken), c .before .before .before .before .before .before .record-size .ensures)
+sub-counts-shown c = omega (arith, start-fits (c .before .before .before .before .before .before .before .before .before .before .before .args .input .now) (sym (c .before .before .before .before .before .before .before .before .start-holds .ensures) ∙ c .before .before .before .before .before .before .before .if1 .taken), c .before .before .before .before .before .before .record-size .ensures)
 
 part-counts-shown-start : tie.Need-part-counts-shown-start
-part-counts-shown-start c = omega (arith, law.start-fits (c .before .before .before .before .before .before .before .before .before .before .before .args .input .now) (sym (c .before .before .before .before .before .before .before .before .start-holds .ensures) ∙ c .before .before .before .before .before .before .before .if1 .taken), c .before .before .before .before .before .before .record-size .ensures)
+part-counts-shown-start c = omega (arith, start-fits (c .before .before .before .before .before .before .before .before .before .before .before .args .input .now) (sym (c .before .before .before .before .before .before .before .before .start-holds .ensures) ∙ c .before .before .before .before .before .before .before .if1 .taken), c .before .before .before .before .before .before .record-size .ensures)
 
 part-counts-shown-end : tie.Need-part-counts-shown-end
 part-counts-shown-end c = search needs

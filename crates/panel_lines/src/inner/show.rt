@@ -1,16 +1,15 @@
 // A tree whose record was loaded, and the bytes of its counts.
 ghost use mathlib.Core.Path.{_≡_};
 ghost use Prim.Native.Nat.{_≤_};
-ghost use Rattle.panel_lines.specs.Panel.{countsShown};
-ghost use Rattle.panel_lines.specs.Parts.{linesShown, linesAfter, countsAfter};
-use crate::Shown;
+ghost use Rattle.panel_lines.specs.Parts.{linesShown, linesAfter, countsShown, countsAfter};
 use crate::inner::read;
 use crate::inner::write;
+use record::Saved;
 use rule_tree::RuleTree;
 use rule_tree::inner::counts;
 
 // The lines are written into a buffer that has room for any, and then into out where that has.
-fn lines_shown(t: RuleTree, xs: &[u64], out: &mut [u8]) -> Shown
+fn lines_shown(t: RuleTree, xs: &[u64], out: &mut [u8]) -> Saved
     requires { ⌜ t .splits ≤ 64 ⌝ }
     ensures { λ r. ⌜ (r ≡ linesShown t (now (xs .entry)) (now (out .entry))) × (now (out .exit) ≡ linesAfter t (now (xs .entry)) (now (out .entry)) (linesShown t (now (xs .entry)) (now (out .entry)))) ⌝ }
 {
@@ -20,14 +19,14 @@ fn lines_shown(t: RuleTree, xs: &[u64], out: &mut [u8]) -> Shown
         let size = write::put_lines(&mut buf, t, xs, all);
         if size <= out.len() {
             write::put(out, 0, &buf[0..size]);
-            return Shown::Size(size);
+            return Saved::Size(size);
         }
-        return Shown::Refused(refusal::SHORT_BUFFER);
+        return Saved::Refused(refusal::SHORT_BUFFER);
     }
-    Shown::Refused(refusal::BAD_COUNTS)
+    Saved::Refused(refusal::BAD_COUNTS)
 }
 
-pub fn counts_shown(t: RuleTree, bytes: &[u8], out: &mut [u8]) -> Shown
+pub fn counts_shown(t: RuleTree, bytes: &[u8], out: &mut [u8]) -> Saved
     requires { ⌜ t .splits ≤ 64 ⌝ }
     ensures { λ r. ⌜ (r ≡ countsShown t (now (bytes .entry)) (now (out .entry))) × (now (out .exit) ≡ countsAfter t (now (bytes .entry)) (now (out .entry)) (countsShown t (now (bytes .entry)) (now (out .entry)))) ⌝ }
 {
@@ -36,5 +35,5 @@ pub fn counts_shown(t: RuleTree, bytes: &[u8], out: &mut [u8]) -> Shown
         let xs = read::counts_at(bytes, n);
         return lines_shown(t, &xs[0..n], out);
     }
-    Shown::Refused(refusal::BAD_COUNTS)
+    Saved::Refused(refusal::BAD_COUNTS)
 }

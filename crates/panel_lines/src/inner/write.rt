@@ -3,8 +3,9 @@ ghost use mathlib.Core.Path.{_≡_};
 ghost use Prim.Native.Nat.{_+_, _≤_};
 ghost use lib.ListN.{length};
 ghost use Rattle.rule_tree.specs.Nodes.{nodeCount};
-ghost use Rattle.panel_lines.specs.Panel.{decimal, shareOf, leafLine, leafLines, firstLine, linesOf};
-ghost use Rattle.panel_lines.specs.Parts.{Wrote, nodeLine, Leaves, Lines};
+ghost use Rattle.panel_lines.specs.Panel.{decimal, leafLine, leafLines, firstLine, linesOf};
+ghost use Rattle.panel_lines.specs.Parts.{Wrote, nodeLine, listed, Leaves, Lines};
+use crate::inner::shares;
 use rule_tree::Node;
 use rule_tree::RuleTree;
 
@@ -34,17 +35,6 @@ fn put_decimal(buf: &mut [u8], at: usize, x: u64) -> usize
     last + 1
 }
 
-// The count's share of all, in thousandths.
-fn share_of(count: u64, all: u64) -> u64
-    requires { ⌜ count ≤ 9007199254740992 ⌝ }
-    ensures { λ r. ⌜ r ≡ shareOf count all ⌝ }
-{
-    if all == 0 {
-        return 0;
-    }
-    1000 * count / all
-}
-
 fn put_leaf(buf: &mut [u8], at: usize, i: u64, share: u64) -> usize
     requires { ⌜ at + length (leafLine i share) ≤ length (now buf) ⌝ }
     ensures { λ r. ⌜ Wrote (now (buf .entry)) at (now (buf .exit)) r (leafLine i share) ⌝ }
@@ -57,27 +47,26 @@ fn put_leaf(buf: &mut [u8], at: usize, i: u64, share: u64) -> usize
 }
 
 // The line of node i, if it is a leaf.
-fn put_node(buf: &mut [u8], at: usize, x: Node, i: u64, count: u64, all: u64) -> usize
-    requires { ⌜ (count ≤ 9007199254740992) × (at + length (nodeLine x i count all) ≤ length (now buf)) ⌝ }
-    ensures { λ r. ⌜ Wrote (now (buf .entry)) at (now (buf .exit)) r (nodeLine x i count all) ⌝ }
+fn put_node(buf: &mut [u8], at: usize, x: Node, i: u64, share: u64) -> usize
+    requires { ⌜ at + length (nodeLine x i share) ≤ length (now buf) ⌝ }
+    ensures { λ r. ⌜ Wrote (now (buf .entry)) at (now (buf .exit)) r (nodeLine x i share) ⌝ }
 {
     if x.children == 0 {
-        let share = share_of(count, all);
         return put_leaf(buf, at, i, share);
     }
     at
 }
 
-// The leaves by rising node; all is the total of the counts.
-fn put_leaves(buf: &mut [u8], at: usize, t: RuleTree, counts: &[u64], all: u64) -> usize
-    requires { ⌜ Leaves (now buf) at t (now counts) all ⌝ }
-    ensures { λ r. ⌜ Wrote (now (buf .entry)) at (now (buf .exit)) r (leafLines (t .nodes) (now (counts .entry)) (nodeCount (t .splits))) ⌝ }
+// The leaves by rising node; the shares are one a node.
+fn put_leaves(buf: &mut [u8], at: usize, t: RuleTree, shares: &[u64]) -> usize
+    requires { ⌜ Leaves (now buf) at t (now shares) ⌝ }
+    ensures { λ r. ⌜ Wrote (now (buf .entry)) at (now (buf .exit)) r (leafLines (t .nodes) (listed (now (shares .entry))) (nodeCount (t .splits))) ⌝ }
 {
     let mut next = at;
     let mut i: usize = 0;
-    while i < counts.len() {
+    while i < shares.len() {
         let x = t.nodes[i];
-        next = put_node(buf, next, x, i as u64, counts[i], all);
+        next = put_node(buf, next, x, i as u64, shares[i]);
         i += 1;
     }
     next
@@ -102,6 +91,8 @@ pub fn put_lines(buf: &mut [u8], t: RuleTree, counts: &[u64], all: u64) -> usize
     requires { ⌜ Lines (now buf) t (now counts) all ⌝ }
     ensures { λ r. ⌜ Wrote (now (buf .entry)) 0 (now (buf .exit)) r (linesOf t (now (counts .entry))) ⌝ }
 {
+    let n = counts.len();
+    let shares = shares::shares_of(counts, all);
     let at = put_first(buf, t.splits);
-    put_leaves(buf, at, t, counts, all)
+    put_leaves(buf, at, t, &shares[0..n])
 }

@@ -80,7 +80,8 @@ pub fn settle(s: Sender, a: Action, next_change: Pending) -> Reply
     let rtt = s.rtt;
     let repeat_actions = s.repeat_actions;
     let last_send = s.last_send;
-    let window = a.apply_to(s.window);
+    let applied = a.applied(s.window);
+    let window = applied.window;
     let intersend_delay = a.intersend_delay;
     let sender = Sender {
         last_ack,
@@ -98,6 +99,7 @@ pub fn settle(s: Sender, a: Action, next_change: Pending) -> Reply
     Reply::Taken(Held {
         sender,
         window: shown,
+        clipped: applied.clipped,
     })
 }
 

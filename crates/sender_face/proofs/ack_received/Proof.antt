@@ -77,11 +77,11 @@ use Rattle.sender.proofs.Sender.ack_received.Symbol.{name as #served}
 use Rattle.sender.proofs.Sender.ack_received.Met as served-thm
 use Rattle.sender_face.specs.Face.{windowFrom, leftBy}
 use Rattle.sender_face.specs.declared.Answer.{Answer}
-use Rattle.sender_face.specs.declared.Answer.the-variants.{Window, Refused}
+use Rattle.sender_face.specs.declared.Answer.the-variants.{Refused}
 use Rattle.sender_face.proofs.Answer as R
 use Rattle.sender_face.proofs.Answer.Laws as R′
 use Rattle.sender_face.proofs.Arms.{arm-of, after, type-of}
-use Rattle.sender_face.proofs.Stored.{machS, machO, machP, machR, ack-stored, window-is, number-is}
+use Rattle.sender_face.proofs.Stored.{machS, machO, machP, machR, ack-stored, told, window-is, number-is}
 use Rattle.sender_face.proofs.Replies.{withAck, ack-left}
 use Rattle.sender_face.proofs.ack_received.Key.{name as #ack-received}
 use Rattle.sender_face.proofs.ack_received as ack-received
@@ -275,8 +275,8 @@ module _ {M : Type 1} (𝓤 : URA M) (H : Heap 𝓤) (A : Atoms 𝓤) (W : Given
           use1 W (‵ (cellAt fullShare (S.the-row .mir) (machS (withAck h n) ∷ []) b o)) (W .laws .at-raw fullShare S′.mir b o (machS (withAck h n))) $
           owned ! S.the-row (Is S.the-row) (LL.makes S.the-type S′.the-plain 𝓤 H A) (withAck h n) (machS (withAck h n) ∷ []) (ack-stored h n g gn) $ move ! (1 ∷ 0 ∷ []) $
           closes ! tt S.the-row (withAck h n) (machS (withAck h n) ∷ []) b o $
-          assigns-last ! (agg ! (and-then ! (lit ! tt) (and-then ! (load ! (from ! (fld ! {d = 168} refl (stop !))) (look-in ! 9 (sub ! 1 {d = 168} refl (whole !)))) (no-more !)))) (from ! (stop !)) (init ! 3 refl (LE.lawful R.the-type R′.the-laws 𝓤 H A W tt .typed (Window (d .window)) _ (window-is d gd) .0)) $
-          forget ! 9 refl $ leaves (reply.Taken d) (withAck h n) (Window (d .window)) (ap windowFrom e) (ack-left h t x y c d e ∙ ap (leftBy h) e) (window-is d gd)
+          assigns-last ! (agg ! (and-then ! (lit ! tt) (and-then ! (load ! (from ! (fld ! {d = 168} refl (stop !))) (look-in ! 9 (sub ! 1 {d = 168} refl (whole !)))) (and-then ! (load ! (from ! (fld ! {d = 172} refl (stop !))) (look-in ! 9 (sub ! 2 {d = 172} refl (whole !)))) (no-more !))))) (from ! (stop !)) (init ! 3 refl (LE.lawful R.the-type R′.the-laws 𝓤 H A W tt .typed (told d) _ (window-is d gd) .0)) $
+          forget ! 9 refl $ leaves (reply.Taken d) (withAck h n) (told d) (ap windowFrom e) (ack-left h t x y c d e ∙ ap (leftBy h) e) (window-is d gd)
 
       -- the arm of a taken ack
       taken : reply.Taken d ≡ found → Sq W (Before (reply.Taken d)) (runs C Λ E (arm-of 0 body.s-3) Then)

@@ -63,11 +63,11 @@ use Rattle.sender.proofs.Sender.packet_sent.Symbol.{name as #sends}
 use Rattle.sender.proofs.Sender.packet_sent.Met as sends-thm
 use Rattle.sender_face.specs.Face.{windowFrom, leftBy}
 use Rattle.sender_face.specs.declared.Answer.{Answer}
-use Rattle.sender_face.specs.declared.Answer.the-variants.{Window, Refused}
+use Rattle.sender_face.specs.declared.Answer.the-variants.{Refused}
 use Rattle.sender_face.proofs.Answer as R
 use Rattle.sender_face.proofs.Answer.Laws as R′
 use Rattle.sender_face.proofs.Arms.{arm-of, type-of}
-use Rattle.sender_face.proofs.Stored.{machS, machN, machO, machP, machR, send-stored, window-is, number-is}
+use Rattle.sender_face.proofs.Stored.{machS, machN, machO, machP, machR, send-stored, told, window-is, number-is}
 use Rattle.sender_face.proofs.Replies.{sent-left}
 use Rattle.sender_face.proofs.packet_sent.Key.{name as #packet-sent}
 use Rattle.sender_face.proofs.packet_sent as packet-sent
@@ -168,8 +168,8 @@ module _ {M : Type 1} (𝓤 : URA M) (H : Heap 𝓤) (A : Atoms 𝓤) (W : Given
         use1 W (‵ (cellAt fullShare (S.the-row .mir) (machS (withLastSend h (sent d)) ∷ []) b o)) (W .laws .at-raw fullShare S′.mir b o (machS (withLastSend h (sent d)))) $
         move ! (1 ∷ []) $ drop ! $ owned ! S.the-row (Is S.the-row) (LL.makes S.the-type S′.the-plain 𝓤 H A) (withLastSend h (sent d)) (machS (withLastSend h (sent d)) ∷ []) (send-stored h (sent d) g (sent-is d gd)) $ move ! (1 ∷ 0 ∷ []) $
         closes ! tt S.the-row (withLastSend h (sent d)) (machS (withLastSend h (sent d)) ∷ []) b o $
-        assigns-last ! (agg ! (and-then ! (lit ! tt) (and-then ! (load ! (from ! (fld ! {d = 168} refl (stop !))) (look-in ! 9 (sub ! 1 {d = 168} refl (whole !)))) (no-more !)))) (from ! (stop !)) (init ! 3 refl (LE.lawful R.the-type R′.the-laws 𝓤 H A W tt .typed (Window (d .window)) _ (window-is d gd) .0)) $
-        forget ! 9 refl $ leaves (reply.Taken d) (withLastSend h (sent d)) (Window (d .window)) (ap windowFrom e) (sent-left h x d e ∙ ap (leftBy h) e) (window-is d gd)))
+        assigns-last ! (agg ! (and-then ! (lit ! tt) (and-then ! (load ! (from ! (fld ! {d = 168} refl (stop !))) (look-in ! 9 (sub ! 1 {d = 168} refl (whole !)))) (and-then ! (load ! (from ! (fld ! {d = 172} refl (stop !))) (look-in ! 9 (sub ! 2 {d = 172} refl (whole !)))) (no-more !))))) (from ! (stop !)) (init ! 3 refl (LE.lawful R.the-type R′.the-laws 𝓤 H A W tt .typed (told d) _ (window-is d gd) .0)) $
+        forget ! 9 refl $ leaves (reply.Taken d) (withLastSend h (sent d)) (told d) (ap windowFrom e) (sent-left h x d e ∙ ap (leftBy h) e) (window-is d gd)))
 
     -- the arm of a refused one
     refused : (k : ℕ) → reply.Refused k ≡ sendOf h x → k < 2 ^ 32 → Sq W (Before (reply.Refused k)) (runs C Λ E (arm-of 1 body.s-3) Then)

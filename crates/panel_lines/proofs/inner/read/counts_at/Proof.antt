@@ -1,5 +1,5 @@
 -- `panel_lines::inner::read::counts_at` meets its contract. The loop's invariant: the first i counts are read. Assumes nothing.
-use Rattle.panel_lines.proofs.Reading as law
+use Rattle.panel_lines.proofs.Filling.{filled-none, filled-turn, filled-done}
 use mathlib.Core.Path.{_≡_}
 use Prim.Native.Nat.{_-_, _≤_}
 use lib.ListN.{length, take}
@@ -15,7 +15,7 @@ abbrev μ-loop : tie.MeasureT-loop
 μ-loop bytes n counts₀ i₀ counts i = n - i
 
 loop-holds : tie.Need-loop-holds Inv-loop μ-loop
-loop-holds c = (search needs, search needs, law.counts-none _)
+loop-holds c = (search needs, search needs, filled-none _)
 
 mul-number-at : tie.Need-mul-number-at Inv-loop μ-loop
 mul-number-at c = search needs
@@ -39,11 +39,11 @@ loop-again : tie.Need-loop-again Inv-loop μ-loop
 loop-again c = (
   search needs,
   search needs,
-  law.counts-turn _ _ _ _ (search needs) (c .before .before .loop .inv .2) (c .number-at .ensures .0),
+  filled-turn _ _ _ _ (search needs) (c .before .before .loop .inv .2) (c .number-at .ensures .0),
 )
 
 returns : tie.Need-returns Inv-loop μ-loop
-returns c = law.counts-done _ _ (c .before .loop .i) _ (c .before .loop .inv .0) (c .loop-test .left) (c .before .loop .inv .2)
+returns c = filled-done _ _ (c .before .loop .i) _ (c .before .loop .inv .0) (c .loop-test .left) (c .before .loop .inv .2)
 
 pub counts-at-spec : {M : Type 1} → statement M
 counts-at-spec =

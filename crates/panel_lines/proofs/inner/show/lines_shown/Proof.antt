@@ -22,10 +22,8 @@ slice-aggregate-put-lines c = search needs
 put-lines-requires : tie.Need-put-lines-requires
 put-lines-requires c κs =
     let s = c .before .before .before .before .before .before in
-    record {
-      totalled = law.totalled (s .args .t) (s .args .xs .now) _ (s .pre) (sym (c .before .before .before .counts-hold .ensures) ∙ c .before .before .if1 .taken) (c .before .capped-total .ensures);
-      room = lines-fit (s .args .t) (s .args .xs .now) (s .pre);
-    }
+    law.lines-taken (s .args .t) (s .args .xs .now) _ _ (s .pre) (sym (c .before .before .before .counts-hold .ensures) ∙ c .before .before .if1 .taken) (c .before .capped-total .ensures)
+    (omega (arith, length-replicate {A = ℕ} 8192 0))
 
 sub-put : tie.Need-sub-put
 sub-put c = search needs

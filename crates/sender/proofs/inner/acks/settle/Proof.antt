@@ -1,16 +1,18 @@
--- `settle` sets window and wait by the action. Assumes nothing.
+-- `settle` sets window and wait by the action, and says whether its rule clipped. Assumes nothing.
 use borrow.Author.Needs.{needs}
+use Rattle.remy.specs.Action.{ruleOf}
 use Rattle.sender.proofs.inner.acks.settle.Statement.{statement}
 use Rattle.sender.proofs.inner.acks.settle.Tie as tie
 
-apply-to-requires : tie.Need-apply-to-requires
-apply-to-requires c κs = search needs
+applied-requires : tie.Need-applied-requires
+applied-requires c κs = search needs
 
 window-now-requires : tie.Need-window-now-requires
 window-now-requires c κs = search needs
 
 returns : tie.Need-returns
-returns c = rw (c .window-now .ensures, c .before .before .apply-to .ensures)
+unfolding ruleOf
+returns c = rw (c .window-now .ensures, c .before .before .applied .ensures)
 
 pub settle-spec : {M : Type 1} → statement M
-settle-spec = tie.close (tie.spec apply-to-requires window-now-requires returns)
+settle-spec = tie.close (tie.spec applied-requires window-now-requires returns)

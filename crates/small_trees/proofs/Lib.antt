@@ -1,0 +1,4 @@
+pub mod Tables
+pub mod Growing
+pub mod Ways
+pub mod Lists
