@@ -13,8 +13,6 @@ use small_trees::SplitList;
 use wire::inner::read;
 use wire::inner::write;
 
-const NO_SPLIT_LIST: u32 = 30;
-
 // Whether the bytes are a length byte and two bytes for each node.
 fn whole(list: &[u8]) -> bool
     ensures { λ r. ⌜ r ≡ listWhole (now (list .entry)) ⌝ }
@@ -29,7 +27,7 @@ fn after_in(n: u32, list: &[u8]) -> After
 {
     let k = read::byte_at(list, 0) as usize;
     if 3 < k {
-        return After::Refused(NO_SPLIT_LIST);
+        return After::Refused(refusal::NO_SPLIT_LIST);
     }
     let first = read::short_at(list, 1);
     let second = read::short_at(list, 3);

@@ -1,5 +1,5 @@
 -- 02, request 14: "Each grows a tree the loader takes." Saved with any settings that hold, a trainer with such a tree is loaded back as it was. Assumes nothing.
-use mathlib.Core.Path.{_≡_, refl}
+use mathlib.Core.Path.{_≡_, refl, ap, _∙_}
 use mathlib.Core.Bool.{true}
 use mathlib.Core.List.{List, [], _∷_}
 use Prim.Native.Nat.{ℕ, _+_, _≤_}
@@ -9,16 +9,18 @@ use lib.Ieee.{toBits}
 use Rattle.remy.specs.declared.action.Action.{Action}
 use Rattle.remy.specs.declared.point.Point.{Point}
 use Rattle.remy.specs.Action.{validOf}
+use Rattle.remy.specs.Cube.{pointEqual}
+use Rattle.remy.proofs.Ends.{ends-themselves}
 use Rattle.rule_tree.specs.declared.RuleTree.{RuleTree}
 use Rattle.rule_tree.specs.Nodes.{mostSplits}
 use Rattle.rule_tree.specs.Grown.{endsHold}
 use Rattle.rule_tree.specs.Change.{freshTree, splitAt}
-use Rattle.rule_tree.proofs.Plain.{ActionFits, PointFits}
-use Rattle.rule_tree.proofs.Changing.{fresh-length}
+use Rattle.rule_tree.proofs.Plain.{ActionFits, ends-admitted}
 use Rattle.rule_tree_laws.proofs.Sound.{TreeFits}
 use Rattle.trainer.specs.declared.settings.Settings.{Settings}
 use Rattle.trainer.specs.Settings.{settingsHold}
-use Rattle.trainer.specs.State.{untriedIn, phaseHolds, acceptedOf}
+use Rattle.trainer.specs.State.{untriedIn, boxHolds, phaseHolds, acceptedOf}
+use Rattle.trainer.proofs.Holds.{parts}
 use Rattle.trainer.specs.Phases.{taken}
 use Rattle.trainer.proofs.AcceptedFacts.{few-splits}
 use Rattle.record.specs.Write.{recordOf}
@@ -32,8 +34,11 @@ use Rattle.small_trees.specs.Lists.{isGrowth}
 use Rattle.small_trees_laws.specs.Trees.{grownBy, endedWith}
 use Rattle.small_trees_laws.proofs.Trees.{listed-grown}
 
-root-fits : (e : Point) (a : Action) → PointFits e → ActionFits a → TreeFits (freshTree e a)
-root-fits e a p g = record { full = fresh-length e a; ends = p; actions = fresh-fits a g .actions }
+-- splits keep the upper ends
+grown-ends : (t : RuleTree) (xs : List ℕ) → grownBy t xs .ends ≡ t .ends
+unfolding grownBy splitAt
+grown-ends t [] = refl
+grown-ends t (i ∷ rest) = grown-ends (splitAt t i) rest
 
 grown-fits : (t : RuleTree) (xs : List ℕ) → TreeFits t → TreeFits (grownBy t xs)
 unfolding grownBy
@@ -44,20 +49,29 @@ ended-holds : (s : Settings) (t : RuleTree) → phaseHolds (endedWith s t) ≡ t
 unfolding phaseHolds untriedIn toBits
 ended-holds s t = rw (eq-eqb (s .«rule_splits» + 1) (s .«rule_splits» + 1) refl)
 
-module _ (s : Settings) (f : SettingsFits s) (h : settingsHold s ≡ true) (e : Point) (p : PointFits e) (b : endsHold e ≡ true)
-    (a : Action) (g : ActionFits a) (v : validOf a ≡ true) (n : ℕ) (xs : List ℕ) (l : n ≤ mostSplits) (w : isGrowth n xs ≡ true) where
+module _ (s : Settings) (f : SettingsFits s) (h : settingsHold s ≡ true) (a : Action) (g : ActionFits a) (v : validOf a ≡ true) (n : ℕ) (xs : List ℕ)
+    (l : n ≤ mostSplits) (w : isGrowth n xs ≡ true) where
   abbrev pub tree : RuleTree
-  tree = grownBy (freshTree e a) xs
+  tree = grownBy (freshTree (s .ends) a) xs
+
+  held : endsHold (s .ends) ≡ true
+  held = parts s h .4
+
+  boxed : boxHolds (endedWith s tree) ≡ true
+  unfolding boxHolds
+  boxed =
+      ap (λ (p : Point). pointEqual p (s .ends)) (grown-ends (freshTree (s .ends) a) xs)
+      ∙ ends-themselves (s .ends) (ends-admitted (s .ends) held)
 
   pub listed-accepted : acceptedOf (endedWith s tree) ≡ true
   unfolding acceptedOf
-  listed-accepted = rw (h, listed-grown e b a v n xs l w, ended-holds s tree)
+  listed-accepted = rw (h, listed-grown (s .ends) held a v n xs l w, boxed, ended-holds s tree)
 
   fit : TrainerFits (endedWith s tree)
   fit =
       record {
         settings = f;
-        tree = grown-fits (freshTree e a) xs (root-fits e a p g);
+        tree = grown-fits (freshTree (s .ends) a) xs (fresh-fits (s .ends) a (f .ends) g);
         stage = omega (arith, few-splits s h);
         round = omega arith;
         leaf = omega arith;

@@ -13,6 +13,9 @@ abbrev μ-loop : tie.MeasureT-loop
 new-requires : tie.Need-new-requires Inv-loop μ-loop
 new-requires c κs = search needs
 
+usual-ends-requires : tie.Need-usual-ends-requires Inv-loop μ-loop
+usual-ends-requires c κs = search needs
+
 new-requires-2 : tie.Need-new-requires-2 Inv-loop μ-loop
 new-requires-2 c κs = search needs
 
@@ -41,6 +44,7 @@ grow-spec =
     Inv-loop
     μ-loop
     new-requires
+    usual-ends-requires
     new-requires-2
     loop-holds
     split-requires
