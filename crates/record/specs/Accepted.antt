@@ -8,14 +8,14 @@ use lib.Dec.{eqb, ltb, leb}
 use lib.Ieee.{binary64, ofBits, nanBits, lt}
 use Rattle.remy.specs.Action.{validOf}
 use Rattle.rule_tree.specs.Lists.{allBelow}
-use Rattle.rule_tree.specs.Nodes.{nodeCount}
+use Rattle.rule_tree.specs.Nodes.{nodeCount, mostSplits}
 use Rattle.trainer.specs.declared.settings.Settings.{Settings}
 use Rattle.trainer.specs.Settings.{settingsHold}
 use Rattle.trainer.specs.Candidates.{candidatesOf}
 use Rattle.trainer.specs.State.{none}
 use Rattle.record.specs.declared.inner.layout.Layout.{Layout}
 use Rattle.wire.specs.Bytes.{numberAt}
-use Rattle.record.specs.Layout.{layoutOf, listPlace, statePlace, sizeIn}
+use Rattle.record.specs.Layout.{layoutOf, settingsPlace, drillPlace, listPlace, statePlace, sizeIn}
 use Rattle.wire.specs.Fields.{actionAt, flagAt}
 use Rattle.record.specs.Read.{settingsAt, splitCount, splitAtPlace, linkOf, carriedAt, payloadPlace, versionAt}
 
@@ -25,11 +25,11 @@ flagAccepted bytes at = leb (getD bytes at 0) 1
 
 -- "at most 64 splits"; refused are "bytes that end early or run on for the split count"
 unfoldable pub sizeAccepted : Layout → List ℕ → ℕ → Bool
-sizeAccepted l bytes s = leb s 64 && eqb (length bytes) (sizeIn l s)
+sizeAccepted l bytes s = leb s mostSplits && eqb (length bytes) (sizeIn l s)
 
 -- "settings .. hold", their upper ends too, and their drill byte is a flag
 unfoldable pub settingsAccepted : Layout → List ℕ → Bool
-settingsAccepted l bytes = settingsHold (settingsAt l bytes 5) && flagAccepted bytes 17
+settingsAccepted l bytes = settingsHold (settingsAt l bytes settingsPlace) && flagAccepted bytes (settingsPlace + drillPlace)
 
 -- "each names a leaf then": split k's node is one of the 1 + 8 k that there are, and no split before it made it a parent
 unfoldable pub splitAccepted : List ℕ → ℕ → ℕ → Bool
@@ -87,13 +87,13 @@ keptAccepted phase best k kept score =
 
 -- the length of the list of candidates for the action of a leaf
 abbrev pub listLength : Layout → List ℕ → ℕ → ℕ → ℕ
-listLength l bytes s leaf = length (candidatesOf (settingsAt l bytes 5) (actionAt bytes (payloadPlace l bytes s leaf)))
+listLength l bytes s leaf = length (candidatesOf (settingsAt l bytes settingsPlace) (actionAt bytes (payloadPlace l bytes s leaf)))
 
 -- the state that stands at a place
 unfoldable pub stateAccepted : Layout → List ℕ → ℕ → ℕ → Bool
 stateAccepted l bytes s at =
     phaseAccepted (getD bytes at 0)
-    && (stageAccepted (settingsAt l bytes 5) (getD bytes at 0) (numberAt bytes (at + 1) 4) (numberAt bytes (at + 5) 4)
+    && (stageAccepted (settingsAt l bytes settingsPlace) (getD bytes at 0) (numberAt bytes (at + 1) 4) (numberAt bytes (at + 5) 4)
     && (leafAccepted l bytes s (getD bytes at 0) (numberAt bytes (at + 9) 2)
     && (bestAccepted (getD bytes at 0) (numberAt bytes (at + 11) 8)
     && (triedAccepted (getD bytes at 0) (listLength l bytes s (numberAt bytes (at + 9) 2)) (numberAt bytes (at + 19) 2)

@@ -14,7 +14,7 @@ use Rattle.trainer.specs.Calls.{blankTrainer}
 use Rattle.record.specs.declared.Saved.{Saved}
 use Rattle.record.specs.declared.Saved.the-variants.{Size, Refused}
 use Rattle.wire.specs.Bytes.{numberAt, sameBytes}
-use Rattle.record.specs.Layout.{layoutOf, knownOf}
+use Rattle.record.specs.Layout.{layoutOf, knownOf, lengthSize, settingsPlace}
 use Rattle.record.specs.Write.{recordIn, recordOf}
 use Rattle.record.specs.Read.{versionAt, readOf}
 
@@ -33,11 +33,11 @@ bufferAfter t buf (Refused k) = buf
 -- "6 fewer than 4 bytes, or the u32 over 16,384 or not the bytes that follow"
 unfoldable pub lengthHolds : List ℕ → Bool
 lengthHolds bytes =
-    leb 4 (length bytes) && (leb (numberAt bytes 0 4) 16384 && eqb (numberAt bytes 0 4) (length bytes - 4))
+    leb lengthSize (length bytes) && (leb (numberAt bytes 0 lengthSize) 16384 && eqb (numberAt bytes 0 lengthSize) (length bytes - lengthSize))
 
 -- "7 no version byte, or unknown"
 unfoldable pub versionHolds : List ℕ → Bool
-versionHolds bytes = leb 5 (length bytes) && knownOf (versionAt bytes)
+versionHolds bytes = leb settingsPlace (length bytes) && knownOf (versionAt bytes)
 
 -- what the trainer that the bytes stand for is written as in their own version
 abbrev pub againOf : List ℕ → List ℕ

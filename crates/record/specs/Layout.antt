@@ -23,24 +23,61 @@ carries l c = l .parents || eqb c 0
 abbrev pub givenAction : Settings → Action
 givenAction s = s .«default_action»
 
--- the bytes of the upper ends
+-- ---- how many bytes each part has
+-- "u32 length of all that follows; version byte", after which the settings stand
+abbrev pub lengthSize : ℕ
+lengthSize = 4
+
+abbrev pub settingsPlace : ℕ
+settingsPlace = lengthSize + 1
+
+-- "multiplier bits 8, increment 4, delay bits 8"
+abbrev pub actionSize : ℕ
+actionSize = 8 + 4 + 8
+
+-- "u32 splits, rounds, multiplier; drill byte; five actions", after which the upper ends stand
+abbrev pub drillPlace : ℕ
+drillPlace = 3 * 4
+
+abbrev pub settingsSize : ℕ
+settingsSize = drillPlace + 1 + 5 * actionSize
+
+abbrev pub endsPlace : ℕ
+endsPlace = settingsPlace + settingsSize
+
+-- "u16 split count; each split's node u16"
+abbrev pub countSize : ℕ
+countSize = 2
+
+-- "its action and mark byte"
+abbrev pub nodeSize : ℕ
+nodeSize = actionSize + 1
+
+-- "phase byte; u32 stage, round; u16 leaf; best 8; u16 k; u16 kept (65535 none); kept's score 8"
+abbrev pub stateSize : ℕ
+stateSize = 1 + 2 * 4 + 2 + 8 + 2 + 2 + 8
+
+-- the bytes of the upper ends: "24 bytes"
 unfoldable pub endsSize : Layout → ℕ
-endsSize l = cond (l .ends) 24 0
+endsSize l = cond (l .ends) (3 * 8) 0
 
 -- how many nodes of a tree of s splits are written: all, or the leaves
 unfoldable pub nodesIn : Layout → ℕ → ℕ
 nodesIn l s = cond (l .parents) (1 + 8 * s) (1 + 7 * s)
 
--- where the splits' nodes stand, then the nodes' actions and marks, 21 bytes each, then the state
+-- where the split count stands, then the splits' nodes, then the nodes' actions and marks, then the state
+abbrev pub countPlace : Layout → ℕ
+countPlace l = endsPlace + endsSize l
+
 abbrev pub listPlace : Layout → ℕ
-listPlace l = 120 + endsSize l
+listPlace l = countSize + endsPlace + endsSize l
 
 abbrev pub nodesPlace : Layout → ℕ → ℕ
 nodesPlace l s = listPlace l + 2 * s
 
 abbrev pub statePlace : Layout → ℕ → ℕ
-statePlace l s = nodesPlace l s + 21 * nodesIn l s
+statePlace l s = nodesPlace l s + nodeSize * nodesIn l s
 
 -- the size of the record of a tree of s splits
 abbrev pub sizeIn : Layout → ℕ → ℕ
-sizeIn l s = statePlace l s + 31
+sizeIn l s = statePlace l s + stateSize

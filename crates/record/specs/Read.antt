@@ -10,12 +10,12 @@ use Rattle.remy.specs.Cube.{usualEnds}
 use Rattle.rule_tree.specs.declared.Node.{Node}
 use Rattle.rule_tree.specs.declared.RuleTree.{RuleTree}
 use Rattle.rule_tree.specs.Lists.{tabulate, countBelow}
-use Rattle.rule_tree.specs.Nodes.{nodeCount, blankNode, nodeHolding}
+use Rattle.rule_tree.specs.Nodes.{nodeCount, slots, blankNode, nodeHolding}
 use Rattle.trainer.specs.declared.settings.Settings.{Settings}
 use Rattle.trainer.specs.declared.Trainer.{Trainer}
 use Rattle.record.specs.declared.inner.layout.Layout.{Layout}
 use Rattle.wire.specs.Bytes.{numberAt}
-use Rattle.record.specs.Layout.{layoutOf, carries, givenAction, endsSize, listPlace, nodesPlace, statePlace}
+use Rattle.record.specs.Layout.{layoutOf, carries, givenAction, lengthSize, settingsPlace, settingsSize, endsPlace, countSize, nodeSize, countPlace, listPlace, nodesPlace, statePlace}
 use Rattle.wire.specs.Fields.{floatAt, actionAt, flagAt, pointAt}
 
 -- the upper ends that stand at a place, or the usual ones: "older versions load with 600, 600, 1000"
@@ -34,12 +34,12 @@ settingsAt l bytes at =
       «initial_action_change» = actionAt bytes (at + 53);
       «max_action_change» = actionAt bytes (at + 73);
       «default_action» = actionAt bytes (at + 93);
-      ends = endsAt l bytes (at + 113);
+      ends = endsAt l bytes (at + settingsSize);
     }
 
 -- the split count, and the node of split k in the list at place list
 abbrev pub splitCount : Layout → List ℕ → ℕ
-splitCount l bytes = numberAt bytes (118 + endsSize l) 2
+splitCount l bytes = numberAt bytes (countPlace l) countSize
 
 abbrev pub splitAtPlace : List ℕ → ℕ → ℕ → ℕ
 splitAtPlace bytes list k = numberAt bytes (list + 2 * k) 2
@@ -54,7 +54,7 @@ abbrev pub carriedAt : Layout → List ℕ → ℕ → ℕ → Bool
 carriedAt l bytes s i = carries l (linkOf bytes (listPlace l) s i)
 
 abbrev pub payloadPlace : Layout → List ℕ → ℕ → ℕ → ℕ
-payloadPlace l bytes s i = nodesPlace l s + 21 * countBelow i (carriedAt l bytes s)
+payloadPlace l bytes s i = nodesPlace l s + nodeSize * countBelow i (carriedAt l bytes s)
 
 -- the node with the first child c: what stands at place at, or, where the layout does not carry it, the action a, unmarked
 abbrev pub nodeWith : Layout → Action → List ℕ → ℕ → ℕ → Node
@@ -69,7 +69,7 @@ nodeAtPlace l a bytes s i =
     cond (ltb i (nodeCount s)) (nodeWith l a bytes (payloadPlace l bytes s i) (linkOf bytes (listPlace l) s i)) blankNode
 
 abbrev pub treeAt : Layout → Action → List ℕ → ℕ → RuleTree
-treeAt l a bytes s = record { nodes = tabulate 513 (nodeAtPlace l a bytes s); splits = s; ends = endsAt l bytes 118 }
+treeAt l a bytes s = record { nodes = tabulate slots (nodeAtPlace l a bytes s); splits = s; ends = endsAt l bytes endsPlace }
 
 -- the trainer with these settings and this tree whose state stands at place at
 abbrev pub stateAt : Settings → RuleTree → List ℕ → ℕ → Trainer
@@ -89,14 +89,14 @@ stateAt s t bytes at =
 
 abbrev pub trainerAt : Layout → List ℕ → ℕ → Trainer
 trainerAt l bytes s =
-    stateAt (settingsAt l bytes 5) (treeAt l (givenAction (settingsAt l bytes 5)) bytes s) bytes (statePlace l s)
+    stateAt (settingsAt l bytes settingsPlace) (treeAt l (givenAction (settingsAt l bytes settingsPlace)) bytes s) bytes (statePlace l s)
 
 abbrev pub readIn : Layout → List ℕ → Trainer
 readIn l bytes = trainerAt l bytes (splitCount l bytes)
 
 -- the version byte, and the trainer that the bytes stand for in that version's layout
 abbrev pub versionAt : List ℕ → ℕ
-versionAt bytes = getD bytes 4 0
+versionAt bytes = getD bytes lengthSize 0
 
 abbrev pub readOf : List ℕ → Trainer
 readOf bytes = readIn (layoutOf (versionAt bytes)) bytes

@@ -5,6 +5,27 @@ ghost use Rattle.record.specs.Layout.{layoutOf, knownOf, carries, givenA
 use remy::action::Action;
 use trainer::settings::Settings;
 
+// Where the settings stand: after the length, four bytes, and the version byte.
+pub const SETTINGS_PLACE: usize = 4 + 1;
+
+pub const ACTION_SIZE: usize = 8 + 4 + 8;
+// Three numbers and the drill byte, then five actions.
+pub const NUMBERS_SIZE: usize = 3 * 4 + 1;
+
+pub const SETTINGS_SIZE: usize = NUMBERS_SIZE + 5 * ACTION_SIZE;
+// Where the upper ends stand, in a layout that has them.
+pub const ENDS_PLACE: usize = SETTINGS_PLACE + SETTINGS_SIZE;
+
+pub const ENDS_SIZE: usize = 3 * 8;
+// The split count, and where the splits' nodes stand in a layout without upper ends.
+pub const COUNT_SIZE: usize = 2;
+
+pub const LIST_PLACE: usize = ENDS_PLACE + COUNT_SIZE;
+// A node's action and mark.
+pub const NODE_SIZE: usize = ACTION_SIZE + 1;
+// Phase, stage, round, leaf, best, k, kept and its score.
+pub const STATE_SIZE: usize = 1 + 2 * 4 + 2 + 8 + 2 + 2 + 8;
+
 // Every node's action and mark is written, or the leaves' alone; the upper ends follow the settings' actions, or do not.
 pub struct Layout {
     pub parents: bool,
@@ -48,7 +69,7 @@ pub fn given(s: Settings) -> Action
 pub fn ends_size(l: Layout) -> usize
     ensures { λ r. ⌜ (r ≡ endsSize l) × (r ≤ 24) ⌝ }
 {
-    if l.ends { 24 } else { 0 }
+    if l.ends { ENDS_SIZE } else { 0 }
 }
 
 // The nodes that are written of a tree of s splits.
@@ -66,7 +87,7 @@ pub fn nodes_in(l: Layout, s: u16) -> usize
 pub fn nodes_place(l: Layout, s: u16) -> usize
     ensures { λ r. ⌜ (r ≡ nodesPlace l s) × (r ≤ 144 + 2 * s) ⌝ }
 {
-    120 + ends_size(l) + 2 * (s as usize)
+    LIST_PLACE + ends_size(l) + 2 * (s as usize)
 }
 
 pub fn state_place(l: Layout, s: u16) -> usize
@@ -74,12 +95,12 @@ pub fn state_place(l: Layout, s: u16) -> usize
 {
     let first = nodes_place(l, s);
     let n = nodes_in(l, s);
-    first + 21 * n
+    first + NODE_SIZE * n
 }
 
 // The size of the record of a trainer whose tree is grown by s splits.
 pub fn size(l: Layout, s: u16) -> usize
     ensures { λ r. ⌜ (r ≡ sizeIn l s) × (r ≤ 196 + 170 * s) ⌝ }
 {
-    state_place(l, s) + 31
+    state_place(l, s) + STATE_SIZE
 }

@@ -35,7 +35,7 @@ pub fn settings_at(bytes: &[u8], l: Layout, at: usize) -> Settings
     let initial_action_change = action_at(bytes, at + 53);
     let max_action_change = action_at(bytes, at + 73);
     let default_action = action_at(bytes, at + 93);
-    let ends = ends_at(bytes, l, at + 113);
+    let ends = ends_at(bytes, l, at + layout::SETTINGS_SIZE);
     Settings {
         rule_splits,
         optimization_rounds_per_split,
@@ -65,7 +65,7 @@ pub fn split_count(bytes: &[u8], l: Layout) -> u16
     ensures { λ r. ⌜ r ≡ splitCount l (now (bytes .entry)) ⌝ }
 {
     let skipped = layout::ends_size(l);
-    short_at(bytes, 118 + skipped)
+    short_at(bytes, layout::ENDS_PLACE + skipped)
 }
 
 // Each node's first child after the s splits whose nodes stand at place list, 0 for a leaf.
@@ -104,7 +104,7 @@ fn past(l: Layout, at: usize, c: u16) -> usize
     ensures { λ r. ⌜ r ≡ at + 21 * cond (carries l c) 1 0 ⌝ }
 {
     if layout::carries_node(l, c) {
-        at + 21
+        at + layout::NODE_SIZE
     } else {
         at
     }
@@ -114,7 +114,7 @@ fn nodes_at(bytes: &[u8], l: Layout, a: Action, s: u16) -> [Node; 513]
     requires { ⌜ s ≤ 64 ⌝ }
     ensures { λ r. ⌜ r ≡ treeAt l a (now (bytes .entry)) s .nodes ⌝ }
 {
-    let list = 120 + layout::ends_size(l);
+    let list = layout::LIST_PLACE + layout::ends_size(l);
     let children = links_at(bytes, list, s);
     let n = 1 + 8 * (s as usize);
     let blank = rule_tree::inner::change::blank_node();
@@ -135,7 +135,7 @@ fn tree_at(bytes: &[u8], l: Layout, a: Action, s: u16) -> RuleTree
     ensures { λ r. ⌜ r ≡ treeAt l a (now (bytes .entry)) s ⌝ }
 {
     let nodes = nodes_at(bytes, l, a, s);
-    let ends = ends_at(bytes, l, 118);
+    let ends = ends_at(bytes, l, layout::ENDS_PLACE);
     RuleTree {
         nodes,
         splits: s,
@@ -148,7 +148,7 @@ pub fn trainer_at(bytes: &[u8], l: Layout, s: u16) -> Trainer
     ensures { λ r. ⌜ r ≡ trainerAt l (now (bytes .entry)) s ⌝ }
 {
     let at = layout::state_place(l, s);
-    let settings = settings_at(bytes, l, 5);
+    let settings = settings_at(bytes, l, layout::SETTINGS_PLACE);
     let a = layout::given(settings);
     let tree = tree_at(bytes, l, a, s);
     let phase = byte_at(bytes, at);

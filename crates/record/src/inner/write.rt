@@ -58,7 +58,7 @@ fn put_settings(buf: &mut [u8], at: usize, s: Settings)
     ensures { λ _. ⌜ now (buf .exit) ≡ sets (now (buf .entry)) at (settingsBytes s) ⌝ }
 {
     put_numbers(buf, at, s);
-    put_actions(buf, at + 13, s);
+    put_actions(buf, at + layout::NUMBERS_SIZE, s);
 }
 
 // The first n numbers, two bytes each.
@@ -91,7 +91,7 @@ fn put_ends(buf: &mut [u8], at: usize, l: Layout, s: Settings) -> usize
     if l.ends {
         let ends = s.ends;
         put_point(buf, at, ends);
-        return at + 24;
+        return at + layout::ENDS_SIZE;
     }
     at
 }
@@ -106,7 +106,7 @@ fn put_node(buf: &mut [u8], at: usize, l: Layout, x: Node) -> usize
         let mark = flag_of(x.optimized);
         put_action(buf, at, a);
         buf[at + 20] = mark;
-        return at + 21;
+        return at + layout::NODE_SIZE;
     }
     at
 }
@@ -170,8 +170,8 @@ pub fn write(buf: &mut [u8], l: Layout, version: u8, t: Trainer)
     let size = layout::size(l, splits);
     put(buf, 0, 4, (size - 4) as u64);
     buf[4] = version;
-    put_settings(buf, 5, s);
-    let after = put_ends(buf, 118, l, s);
+    put_settings(buf, layout::SETTINGS_PLACE, s);
+    let after = put_ends(buf, layout::ENDS_PLACE, l, s);
     put_splits(buf, after, tree);
     let at = put_nodes(buf, after + 2 + 2 * (splits as usize), l, tree);
     put_state(buf, at, t);
