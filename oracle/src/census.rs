@@ -61,7 +61,7 @@ pub fn take(scripts: u64, seed: u64) {
             let last = output.lines().last().unwrap_or("");
             *ends.entry(answer(last)).or_default() += 1;
             if let Some(record) = last.strip_prefix("record ") {
-                let splits = u16::from_str_radix(&record[236..240], 16).unwrap();
+                let splits = u16::from_str_radix(&record[284..288], 16).unwrap();
                 most_splits = most_splits.max(splits);
             }
             if output.lines().any(|line| line.starts_with("done")) {

@@ -114,7 +114,7 @@ impl Host for Zeros {
 fn train_on_zeros(settings: &Settings, answers: usize) -> (Vec<f64>, usize) {
     let seen = Rc::default();
     let host = Zeros { answers, seen: Rc::clone(&seen) };
-    harness::train(&as_given(settings), Box::new(host));
+    harness::train(&as_given(settings), settings.ends, Box::new(host));
     seen.take()
 }
 
@@ -386,8 +386,9 @@ is the oracle's, which follows 01. Rows without a script cannot come up in a sid
 Not differences but additions of 01, for which the originals have nothing to compare: the record and its
 refusals (6 to 9), the order of the refusals, 3 for a number that is no leaf's (the originals reach a leaf
 only through counts; the oracle uses counts that are above 0 at one leaf), 5 (the originals draw for
-themselves; the draw handed in stands in for their generator), 21 and 23, and every state that only a
-loaded record can bring about, such as a mark in phase 1 or phase 2 with drill off.
+themselves; the draw handed in stands in for their generator), 21 and 23, other upper ends than 600, 600 and
+1000 (the originals are given a root with the same ones), and every state that only a loaded record can bring
+about, such as a mark in phase 1 or phase 2 with drill off.
 ";
 
 pub fn page() -> String {

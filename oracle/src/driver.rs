@@ -6,7 +6,7 @@ use std::{cell::RefCell, collections::HashMap, fmt::Write, rc::Rc, sync::atomic:
 
 use flowforge::{
     ccas::remy::rule_tree::RuleTree,
-    harness::{self, Asked, Host},
+    harness::{self, Asked, Ends, Host},
     trainers::remy::RemyTrainer,
 };
 
@@ -124,8 +124,8 @@ fn follow(player: &Rc<RefCell<Player>>) {
     loop {
         let mut finished = None;
         if known {
-            let settings = player.borrow_mut().rewind();
-            finished = harness::train(&settings, Box::new(Live(player.clone())));
+            let (settings, ends) = player.borrow_mut().rewind();
+            finished = harness::train(&settings, ends, Box::new(Live(player.clone())));
         }
         let mut player = player.borrow_mut();
         if let Some(dna) = &finished {
@@ -170,10 +170,11 @@ fn give(asked: &Asked<'_>, answer: &Answer) -> f64 {
 }
 
 impl Player {
-    fn rewind(&mut self) -> RemyTrainer {
+    /// The settings and the upper ends to train with from the start.
+    fn rewind(&mut self) -> (RemyTrainer, Ends) {
         self.given = 0;
         self.progress.clear();
-        self.originals.settings.clone()
+        (self.originals.settings.clone(), self.trainer.settings.ends)
     }
 
     /// `train` asks: the calls are made up to the next good answer.

@@ -19,7 +19,7 @@ use flowforge::{
         RemyCca, RemyPolicy,
     },
     eval::EvaluationConfig,
-    harness::{moment, seconds_of, SenderState},
+    harness::{moment, new_tree, seconds_of, SenderState},
     quantities::seconds,
     trainers::remy::RemyTrainer,
     util::{
@@ -101,7 +101,9 @@ pub fn as_given(settings: &Settings) -> RemyTrainer {
     }
 }
 
+/// With the upper ends of the originals' own root.
 pub fn of_settings(trainer: &RemyTrainer) -> Settings {
+    let RustPoint { ack_ewma, send_ewma, rtt_ratio }: RustPoint = RustPoint::MAX;
     Settings {
         rule_splits: trainer.rule_splits,
         rounds: trainer.optimization_rounds_per_split,
@@ -112,6 +114,7 @@ pub fn of_settings(trainer: &RemyTrainer) -> Settings {
         initial_change: of_action(&trainer.initial_action_change),
         max_change: of_action(&trainer.max_action_change),
         default: of_action(&trainer.default_action),
+        ends: [ack_ewma.seconds(), send_ewma.seconds(), rtt_ratio],
     }
 }
 
@@ -139,7 +142,7 @@ fn number(handle: &LeafHandle<'_>) -> usize {
 
 /// A tree grown by the originals to one of 01.
 pub fn grow(settings: &Settings, plain: &Tree) -> RuleTree {
-    let mut tree = RuleTree::default(to_action(&settings.default));
+    let mut tree = new_tree(settings.ends, to_action(&settings.default));
     for node in &plain.splits {
         leaf(&mut tree, *node).split();
     }

@@ -97,6 +97,7 @@ impl<'a> Reader<'a> {
             initial_change: self.action()?,
             max_change: self.action()?,
             default: self.action()?,
+            ends: self.point()?,
         };
         Ok(Header { settings, drill, mode: self.u8()?, lo: self.u32()?, hi: self.u32()? })
     }
@@ -162,6 +163,7 @@ impl Writer {
         for action in [&s.min, &s.max, &s.initial_change, &s.max_change, &s.default] {
             writer.action(action);
         }
+        writer.point(&s.ends);
         writer.bytes.push(header.mode);
         writer.bytes.extend(header.lo.to_be_bytes());
         writer.bytes.extend(header.hi.to_be_bytes());

@@ -14,7 +14,8 @@ use crate::{
     driver::play,
     gen,
     plain::{
-        admitted, bits, Ack, Action, Answer, Cube, Phase, Repeat, Sender, Settings, Trainer, Tree,
+        admitted, bits, Ack, Action, Answer, Cube, Phase, Point, Repeat, Sender, Settings, Trainer, Tree,
+        USUAL_ENDS,
     },
     rust::{as_given, grow, improvements, leaf, shown, to_action, Shown},
     script::{Call, Header, Writer},
@@ -53,6 +54,7 @@ pub fn run() -> i32 {
         sizes,
         undone,
         versions,
+        ends,
         accepted,
         refused_records,
         sending,
@@ -146,6 +148,7 @@ fn two_candidates() -> Settings {
         initial_change: action(1.0, 1, 1.0),
         max_change: action(1.0, 1, 1.0),
         default: action(1.0, 0, 1.0),
+        ends: USUAL_ENDS,
     }
 }
 
@@ -257,8 +260,8 @@ fn cubes(t: &mut Table) {
         nodes[8 * split - 7..=8 * split].iter().any(|n| (0..3).any(|axis| n.ends[axis] == n.ends[axis + 3]))
     };
     t.row("first split with an empty half", (1..=64).find(|k| empty(*k)).unwrap(), 53);
-    let root = Cube::ROOT.split()[7];
-    t.row("middles are shared", root.min == Cube::ROOT.split()[0].max, true);
+    let halves = Cube::root(USUAL_ENDS).split();
+    t.row("middles are shared", halves[7].min == halves[0].max, true);
 }
 
 fn trees(t: &mut Table) {
@@ -325,7 +328,7 @@ fn trees(t: &mut Table) {
 }
 
 fn tallies(t: &mut Table) {
-    let tree = Tree::new(default_settings().default);
+    let tree = Tree::new(USUAL_ENDS, default_settings().default);
     let full = 1u64 << 53;
     for (name, list, point, want) in [
         ("outside at 2^53", vec![full], [-1.0; 3], "Ok(None)"),
@@ -458,12 +461,12 @@ fn training(t: &mut Table) {
     let calls = [zeros(1), zeros(9), zeros(17), zeros(25), zeros(25)];
     let played = lines(&few(3, 0, false), &calls);
     t.row("progress of three splits", questions(&few(3, 0, false), &calls), "ask counts 3fd0000000000000; ask counts 3fe0000000000000; ask counts 3fe8000000000000; ask counts 3ff0000000000000; done 3ff0000000000000; done 3ff0000000000000");
-    t.row("all zero splits 0, 8, 16", &record_hex(&played)[236..252], "0003000000080010");
+    t.row("all zero splits 0, 8, 16", &record_hex(&played)[284..300], "0003000000080010");
     t.row("and ends", own(&played), "ok; ok; ok; ok; refused 21");
     let calls = [zeros(1), zeros(7), Call::Score(1.0)];
     t.row("done, malformed counts", answers(&few(0, 0, false), &calls), "ok; refused 21; refused 21");
     let tie = [zeros(1), counts(&[0, 5, 0, 5, 0, 0, 0, 0, 0])];
-    t.row("5 and 5: node 3", &record_hex(&lines(&few(2, 0, false), &tie))[236..248], "000200000003");
+    t.row("5 and 5: node 3", &record_hex(&lines(&few(2, 0, false), &tie))[284..296], "000200000003");
 }
 
 fn phases(t: &mut Table) {
@@ -654,19 +657,20 @@ fn scores(t: &mut Table) {
 
 fn sizes(t: &mut Table) {
     let fresh = Trainer::start(default_settings()).unwrap().record();
-    t.row("a fresh record", fresh.len(), 172);
-    t.row("its length field", u32::from_be_bytes(fresh[..4].try_into().unwrap()), 168);
+    t.row("a fresh record", fresh.len(), 196);
+    t.row("its length field", u32::from_be_bytes(fresh[..4].try_into().unwrap()), 192);
     let mut full = Trainer::start(default_settings()).unwrap();
     for k in 0..64 {
         full.tree.split(8 * k).unwrap();
     }
-    t.row("64 splits", full.record().len(), 11_052);
-    t.row("64 splits in version 1", full.first_record().len(), 9708);
+    t.row("64 splits", full.record().len(), 11_076);
+    t.row("64 splits in version 2", full.record_in(2).len(), 11_052);
+    t.row("64 splits in version 1", full.record_in(1).len(), 9708);
     let s = default_settings();
     let hex: String = fresh.iter().map(|b| format!("{b:02x}")).collect();
-    t.row("a buffer that fits", answers(&s, &[Call::Reload(172)]), format!("saved {hex}"));
+    t.row("a buffer that fits", answers(&s, &[Call::Reload(196)]), format!("saved {hex}"));
     t.row("a longer one", answers(&s, &[Call::Reload(u16::MAX)]), format!("saved {hex}"));
-    t.row("a short one", answers(&s, &[Call::Reload(171), Call::Reload(0)]), "refused 9; refused 9");
+    t.row("a short one", answers(&s, &[Call::Reload(195), Call::Reload(0)]), "refused 9; refused 9");
     t.row("the script's record", record_hex(&lines(&s, &[])), hex);
 }
 
@@ -697,7 +701,7 @@ fn undone(t: &mut Table) {
         printed.split("; ").next().unwrap(),
         "0 parent 1 1 3fe0000000000000 7 3fd0000000000000",
     );
-    let calls = [Call::Load(after.first_record()), Call::UndoSplit];
+    let calls = [Call::Load(after.record_in(1)), Call::UndoSplit];
     t.row("of version 1", nodes_of(&lines(&s, &calls)), "0 leaf 0 3ff0000000000000 1 3f689374bc6a7efa");
     let twice = grown(&[0, 3]);
     let calls = [Call::Load(twice.record()), Call::UndoSplit];
@@ -712,18 +716,68 @@ fn versions(t: &mut Table) {
     let mut split = grown(&[0]);
     split.tree.hold(0, (action(0.5, 7, 0.25), true));
     let hex = |record: &[u8]| record.iter().map(|b| format!("{b:02x}")).collect::<String>();
-    for (name, record) in [("2", split.record()), ("1", grown(&[0]).first_record())] {
+    for version in 1..=3 {
+        let record = split.record_in(version);
         let trainer = Trainer::load(&record).unwrap();
         let played = lines(&s, &[Call::Load(record)]);
         t.row(
-            &format!("version {name} is written again as version 2"),
+            &format!("version {version} is written again as version 3"),
             record_hex(&played),
             hex(&trainer.record()),
         );
     }
-    let first = Trainer::load(&split.first_record()).unwrap();
-    t.row("what version 1 gives a parent", hex(&first.record()), hex(&grown(&[0]).record()));
-    t.row("version 2 as it was", hex(&Trainer::load(&split.record()).unwrap().record()), hex(&split.record()));
+    let again = |version| hex(&Trainer::load(&split.record_in(version)).unwrap().record());
+    t.row("what version 1 gives a parent", again(1), hex(&grown(&[0]).record()));
+    t.row("version 2 keeps parents", again(2), hex(&split.record()));
+    t.row("version 3 as it was", again(3), hex(&split.record()));
+    let bytes = split.record();
+    t.row("the ends' bytes", hex(&bytes[118..142]), "4082c000000000004082c00000000000408f400000000000");
+    t.row("without them", hex(&[&bytes[5..118], &bytes[142..]].concat()), hex(&split.record_in(2)[5..]));
+}
+
+fn ends(t: &mut Table) {
+    let with = |ends: Point| Settings { ends, ..few(1, 0, false) };
+    for (name, end, holds) in [
+        ("1", 1.0, true),
+        ("1,000,000", 1_000_000.0, true),
+        ("just below 1", 1.0f64.next_down(), false),
+        ("just above 1,000,000", 1_000_000.0f64.next_up(), false),
+        ("NaN", f64::NAN, false),
+        ("infinite", f64::INFINITY, false),
+        ("-600", -600.0, false),
+    ] {
+        for axis in 0..3 {
+            let mut ends = USUAL_ENDS;
+            ends[axis] = end;
+            let line = if holds { "ask counts" } else { "refused 2" };
+            t.row(&format!("end {axis} {name}"), lines(&with(ends), &[])[0].starts_with(line), true);
+            let mut record = grown(&[0]).record();
+            record[118 + 8 * axis..126 + 8 * axis].copy_from_slice(&end.to_bits().to_be_bytes());
+            let want = if holds { "loaded" } else { "refused 8" };
+            t.row(&format!("loaded end {axis} {name}"), loaded(&record), want);
+        }
+    }
+    // Middles at 1.65, 1 and 0.5.
+    let s = with([3.3, 2.0, 1.0]);
+    for (point, want) in [
+        ([1.65, 0.0, 0.0], "counted 5 1"),
+        ([1.65f64.next_down(), 1.0, 0.5], "counted 4 1"),
+        ([3.3f64.next_down(), 2.0f64.next_down(), 1.0f64.next_down()], "counted 8 1"),
+        ([3.3, 0.0, 0.0], "none"),
+        ([0.0, 2.0, 0.0], "none"),
+        ([0.0, 0.0, 1.0], "none"),
+    ] {
+        let got = answers(&s, &[zeros(1), Call::Tally(point)]);
+        t.row(&format!("reached by {point:?} with ends of 3.3, 2 and 1"), got, format!("ok; {want}"));
+    }
+    t.row("a ratio's end of 1 takes no first ack", answers(&s, &[ack(0.0, 1.0)]), "refused 22");
+    let fast = with([1.0, 1.0, 1000.0]);
+    t.row("a gap of 1 s", answers(&fast, &[ack(0.0, 1.0), ack(0.5, 2.0)]), "window 2; refused 22");
+    let one = Trainer::start(with([1.0, 2.0, 3.0])).unwrap();
+    let other = Trainer::start(with([1.0, 2.0, 3.0f64.next_up()])).unwrap();
+    let equal = |x: &Trainer| answers(&one.settings, &[Call::Equal(x.record())]);
+    t.row("the same ends", equal(&one), "equal 1");
+    t.row("another end", equal(&other), "equal 0");
 }
 
 fn loaded(record: &[u8]) -> String {
@@ -846,7 +900,8 @@ fn refused_records(t: &mut Table) {
         ("u32 0", vec![0; 4], "refused 7"),
         ("u32 1, version 1", vec![0, 0, 0, 1, 1], "refused 8"),
         ("u32 1, version 2", vec![0, 0, 0, 1, 2], "refused 8"),
-        ("u32 1, version 3", vec![0, 0, 0, 1, 3], "refused 7"),
+        ("u32 1, version 3", vec![0, 0, 0, 1, 3], "refused 8"),
+        ("u32 1, version 4", vec![0, 0, 0, 1, 4], "refused 7"),
         ("a byte more", with(&|r| r.push(0)), "refused 6"),
         ("a byte less", with(&|r| r.truncate(end - 1)), "refused 6"),
         (
@@ -868,8 +923,8 @@ fn refused_records(t: &mut Table) {
         ("16,384", padded(16_384), "refused 8"),
         ("16,385", padded(16_385), "refused 6"),
         ("version 0", with(&|r| r[4] = 0), "refused 7"),
-        ("version 3, bad body", with(&|r| (r[4], r[17]) = (3, 9)), "refused 7"),
-        ("version 1, as it is", with(&|r| r[4] = 1), "loaded"),
+        ("version 4, bad body", with(&|r| (r[4], r[17]) = (4, 9)), "refused 7"),
+        ("version 2, ends in it", with(&|r| r[4] = 2), "refused 8"),
         ("drill 2", with(&|r| r[17] = 2), "refused 8"),
         ("65 splits", with(&|r| r[8] = 65), "refused 8"),
         ("mark 2", with(&|r| r[end - 32] = 2), "refused 8"),
@@ -885,9 +940,9 @@ fn refused_records(t: &mut Table) {
     // A split names a leaf then: node 9 exists only after the second split.
     let twice = grown(&[0, 8]).record();
     let mut wrong = twice.clone();
-    (wrong[120 + 2], wrong[120 + 3]) = (0, 9);
+    (wrong[144 + 2], wrong[144 + 3]) = (0, 9);
     t.row("split of a later node", loaded(&wrong), "refused 8");
-    (wrong[120 + 2], wrong[120 + 3]) = (0, 0);
+    (wrong[144 + 2], wrong[144 + 3]) = (0, 0);
     t.row("split of a parent", loaded(&wrong), "refused 8");
     t.row("split of a leaf", loaded(&twice), "loaded");
 }
@@ -992,7 +1047,7 @@ fn repeating(t: &mut Table) {
         "window 2; window 3; refused 22; window 4",
     );
     // A sender that 01 hands in: no script does, so 01's side alone.
-    let tree = Tree::new(default_settings().default);
+    let tree = Tree::new(USUAL_ENDS, default_settings().default);
     let mut nan = Sender::new(Repeat::Off).unwrap();
     nan.round_trips = Some((f64::NAN, 1.0));
     let refused = nan.ack(&tree, &Ack { sent: 0.0, received: 1.0, draw: None });
@@ -1021,7 +1076,7 @@ fn headers(t: &mut Table) {
 
 fn bad_scripts(t: &mut Table) {
     let whole = Writer::new(&header(default_settings())).bytes;
-    t.row("a header's size", whole.len(), 122);
+    t.row("a header's size", whole.len(), 146);
     let mut refused = header(default_settings());
     refused.drill = 9;
     let refused = Writer::new(&refused).bytes;
@@ -1035,8 +1090,8 @@ fn bad_scripts(t: &mut Table) {
         format!("{} {}", lines.len(), lines.last().unwrap())
     };
     t.row("empty", played(&[]).join(";"), "bad script");
-    t.row("a cut header", played(&whole[..121]).join(";"), "bad script");
-    t.row("a cut header that would be refused", played(&refused[..121]).join(";"), "bad script");
+    t.row("a cut header", played(&whole[..145]).join(";"), "bad script");
+    t.row("a cut header that would be refused", played(&refused[..145]).join(";"), "bad script");
     t.row("a refused header, then anything", played(&[&refused[..], &[0]].concat()).join(";"), "refused 2");
     t.row("code 0", last(&[0]), "2 bad script");
     t.row("code 15", last(&[15]), "2 bad script");

@@ -2,6 +2,7 @@
 // candidate's multiplier bits, increment and delay bits; the length and "none" past the end; "refused" and the number.
 use libc::STDOUT_FILENO;
 use remy::action::Action;
+use remy::point::Point;
 use trainer::candidates::Candidate;
 use trainer::settings::Settings;
 
@@ -19,6 +20,7 @@ fn settings(
     let min_action = action(0.0, 0, 0.25);
     let max_action = action(1.0, 256, 3.0);
     let default_action = action(1.0, 1, 3.0);
+    let ends = Point::usual_ends();
     Settings {
         rule_splits: 12,
         optimization_rounds_per_split: 2,
@@ -29,6 +31,7 @@ fn settings(
         initial_action_change,
         max_action_change,
         default_action,
+        ends,
     }
 }
 

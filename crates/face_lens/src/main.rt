@@ -5,6 +5,7 @@ mod lent;
 use lent::Lent;
 use libc::STDOUT_FILENO;
 use remy::action::Action;
+use remy::point::Point;
 use rule_tree::RuleTree;
 use sender::Average;
 use sender::Draw;
@@ -194,7 +195,7 @@ fn told(title: &[u8], came: Sender, lent: Lent, reply: Reply) -> Sender {
 // An ack over a tree of one leaf, whose action adds 10 to the window and waits 0.25 s.
 fn ack(title: &[u8], s: Sender, sent: f64, received: f64) -> Sender {
     let action = Action::new(1.0, 10, 0.25);
-    let tree = RuleTree::new(action).tree;
+    let tree = RuleTree::new(Point::usual_ends(), action).tree;
     let lent = lent::ack(s, tree, sent, received, Draw::Absent);
     let reply = s.ack_received(tree, sent, received, Draw::Absent);
     told(title, s, lent, reply)

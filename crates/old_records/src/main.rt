@@ -1,5 +1,5 @@
-// Records of version 1 on standard input, one after the other: for each a line with its size, the size of what is saved of its trainer,
-// which is of version 2, 1 where that loads as a trainer of which the same bytes are saved, and those bytes.
+// Records of versions 1 and 2 on standard input, one after the other: for each a line with its size, the size of what is saved of its trainer,
+// which is of version 3, 1 where that loads as a trainer of which the same bytes are saved, and those bytes.
 ghost use Rattle.io.specs.Counts.{Counts};
 use libc::STDIN_FILENO;
 use libc::STDOUT_FILENO;

@@ -9,7 +9,7 @@ use lib.Dec.{ltb}
 use lib.ListN.{length, drop, replicate, getD-replicate}
 use lib.Seq.{getD-set-other}
 use Rattle.remy.specs.declared.action.Action.{Action}
-use Rattle.remy.specs.Cube as cube
+use Rattle.remy.specs.declared.point.Point.{Point}
 use Rattle.rule_tree.specs.declared.Node.{Node}
 use Rattle.rule_tree.specs.declared.RuleTree.{RuleTree}
 use Rattle.rule_tree.specs.Lists.{allBelow, tabulate, total}
@@ -29,7 +29,7 @@ use Rattle.wire.specs.Bytes.{bytesOf, valueFrom}
 use Rattle.record.specs.Write.{recordOf}
 use Rattle.record.proofs.Stands.{SettingsFits}
 use Rattle.record.proofs.RoundTrip.{TrainerFits}
-use Rattle.record.proofs.BytesFit.{zero-fits, plain-fits, ends-fit}
+use Rattle.record.proofs.BytesFit.{zero-fits, plain-fits}
 use Rattle.panel_lines.specs.declared.Shown.the-variants.{Size}
 use Rattle.panel_lines.specs.Panel.{digits, shareOf, leafLines, linesOf, countsIn, countsShown, panelOf, outAfter}
 use Rattle.panel_lines.specs.Parts.{countsAfter, linesAfter}
@@ -44,12 +44,12 @@ example =
 -- ---- the values of a fresh trainer fit their types
 module _ (s : Settings) (f : SettingsFits s) where
   abbrev tree : RuleTree
-  tree = freshTree cube.usualEnds (s .«default_action»)
+  tree = freshTree (s .ends) (s .«default_action»)
 
   tree-fits : TreeFits tree
   tree-fits = record {
-    full = fresh-length cube.usualEnds (s .«default_action»);
-    ends = ends-fit;
+    full = fresh-length (s .ends) (s .«default_action»);
+    ends = f .ends;
     actions = at;
   }
     where
@@ -96,21 +96,21 @@ fresh-counts : countsIn (bytesOf 8 5) 1 ≡ 5 ∷ []
 unfolding tabulate bytesOf valueFrom
 fresh-counts = refl
 
-fresh-holds : (a : Action) → countsHold (freshTree cube.usualEnds a) (5 ∷ []) ≡ true
+fresh-holds : (e : Point) (a : Action) → countsHold (freshTree e a) (5 ∷ []) ≡ true
 unfolding countsHold allBelow total
-fresh-holds a = refl
+fresh-holds e a = refl
 
-fresh-lines : (a : Action) → linesOf (freshTree cube.usualEnds a) (5 ∷ []) ≡ example
+fresh-lines : (e : Point) (a : Action) → linesOf (freshTree e a) (5 ∷ []) ≡ example
 unfolding linesOf leafLines digits shareOf total example
-fresh-lines a = refl
+fresh-lines e a = refl
 
-fresh-shown : (a : Action) (out : List ℕ) → 25 ≤ length out → countsShown (freshTree cube.usualEnds a) (bytesOf 8 5) out ≡ Size 25
+fresh-shown : (e : Point) (a : Action) (out : List ℕ) → 25 ≤ length out → countsShown (freshTree e a) (bytesOf 8 5) out ≡ Size 25
 unfolding countsShown bytesOf example
-fresh-shown a out l = rw (fresh-counts, fresh-holds a, fresh-lines a, le-leb 25 (length out) l)
+fresh-shown e a out l = rw (fresh-counts, fresh-holds e a, fresh-lines e a, le-leb 25 (length out) l)
 
-fresh-after : (a : Action) (out : List ℕ) → countsAfter (freshTree cube.usualEnds a) (bytesOf 8 5) out (Size 25) ≡ example ++ drop 25 out
+fresh-after : (e : Point) (a : Action) (out : List ℕ) → countsAfter (freshTree e a) (bytesOf 8 5) out (Size 25) ≡ example ++ drop 25 out
 unfolding linesAfter
-fresh-after a out = rw (fresh-counts, fresh-lines a)
+fresh-after e a out = rw (fresh-counts, fresh-lines e a)
 
 -- "Fresh record and count 5: `leaves 1 splits 0`, then `0 1000`"
 pub fresh-panel : (s : Settings) → settingsHold s ≡ true → SettingsFits s → (out : List ℕ) → 25 ≤ length out
@@ -120,7 +120,7 @@ fresh-panel s h f out l =
     let fits = started-fits s f in
     let held = start-held s h .accepted in (
       saved-shown (started s) fits held (bytesOf 8 5) out
-          ∙ ap (λ (t : RuleTree). countsShown t (bytesOf 8 5) out) (started-tree s f) ∙ fresh-shown (s .«default_action») out l,
+          ∙ ap (λ (t : RuleTree). countsShown t (bytesOf 8 5) out) (started-tree s f) ∙ fresh-shown (s .ends) (s .«default_action») out l,
       saved-after (started s) fits held (bytesOf 8 5) out (Size 25)
-          ∙ ap (λ (t : RuleTree). countsAfter t (bytesOf 8 5) out (Size 25)) (started-tree s f) ∙ fresh-after (s .«default_action») out,
+          ∙ ap (λ (t : RuleTree). countsAfter t (bytesOf 8 5) out (Size 25)) (started-tree s f) ∙ fresh-after (s .ends) (s .«default_action») out,
     )

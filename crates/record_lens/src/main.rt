@@ -2,6 +2,7 @@
 use libc::STDOUT_FILENO;
 use record::Saved;
 use remy::action::Action;
+use remy::point::Point;
 use trainer::Trainer;
 use trainer::settings::Settings;
 
@@ -22,15 +23,13 @@ fn usual() -> Settings {
         initial_action_change: action(0.01, 1, 0.05),
         max_action_change: action(0.5, 32, 1.0),
         default_action: action(1.0, 1, 3.0),
+        ends: Point::usual_ends(),
     }
 }
 
-// The record of a fresh trainer, and a byte of 0 after it.
-fn fresh() -> [u8; 173] {
-    let a = Trainer::start(usual());
-    let t = a.trainer;
-    let mut buf = [0u8; 173];
-    match record::save(t, &mut buf) {
+// The line of what a save has answered.
+fn saved(s: Saved) {
+    match s {
         Saved::Size(n) => {
             io::write_all(STDOUT_FILENO, b"saved ");
             io::print_decimal(STDOUT_FILENO, n as u64);
@@ -41,7 +40,53 @@ fn fresh() -> [u8; 173] {
         }
     }
     end();
+}
+
+// The record of a fresh trainer, and a byte of 0 after it.
+fn fresh() -> [u8; 197] {
+    let a = Trainer::start(usual());
+    let t = a.trainer;
+    let mut buf = [0u8; 197];
+    saved(record::save(t, &mut buf));
     buf
+}
+
+// A trainer that splits once a stage: no rounds, no drill.
+fn splitting() -> Settings {
+    let mut s = usual();
+    s.rule_splits = 64;
+    s.optimization_rounds_per_split = 0;
+    s.drill_down = false;
+    s
+}
+
+// The trainer after an answer with the first n counts.
+fn answered(t: Trainer, counts: &[u64], n: usize) -> Trainer {
+    if n <= counts.len() {
+        return t.answer_counts(&counts[0..n]).trainer;
+    }
+    t
+}
+
+// A trainer whose tree has 64 splits.
+fn full() -> Trainer {
+    let mut t = Trainer::start(splitting()).trainer;
+    let counts = [0u64; 513];
+    let mut i: usize = 0;
+    while i < 64 {
+        t = answered(t, &counts, 1 + 8 * i);
+        i += 1;
+    }
+    t
+}
+
+// The longest record, into a buffer of a byte less and into one of its size.
+fn longest_record() {
+    let t = full();
+    let mut short = [0u8; 11075];
+    saved(record::save(t, &mut short));
+    let mut exact = [0u8; 11076];
+    saved(record::save(t, &mut exact));
 }
 
 fn end() {
@@ -69,34 +114,34 @@ fn first(r: &[u8], n: usize) {
     }
 }
 
-fn of_172(r: &[u8; 173]) {
-    first(r, 172);
+fn of_196(r: &[u8; 197]) {
+    first(r, 196);
 }
 
 // Byte i one more, and one less.
-fn damaged(r: [u8; 173], i: usize) {
+fn damaged(r: [u8; 197], i: usize) {
     let mut more = r;
     let mut less = r;
-    if i < 172 {
+    if i < 196 {
         more[i] = next(r[i]);
         less[i] = before(r[i]);
     }
     io::write_all(STDOUT_FILENO, b"byte ");
     io::print_decimal(STDOUT_FILENO, i as u64);
-    of_172(&more);
-    of_172(&less);
+    of_196(&more);
+    of_196(&less);
     end();
 }
 
-fn each(r: [u8; 173]) {
+fn each(r: [u8; 197]) {
     let mut i: usize = 0;
-    while i < 172 {
+    while i < 196 {
         damaged(r, i);
         i += 1;
     }
 }
 
-fn cut(r: &[u8; 173], n: usize) {
+fn cut(r: &[u8; 197], n: usize) {
     io::write_all(STDOUT_FILENO, b"first ");
     io::print_decimal(STDOUT_FILENO, n as u64);
     first(r, n);
@@ -104,11 +149,11 @@ fn cut(r: &[u8; 173], n: usize) {
 }
 
 // A byte more than the length says, and a length of one more with all its bytes.
-fn longer(r: [u8; 173]) {
+fn longer(r: [u8; 197]) {
     let mut b = r;
-    cut(&b, 173);
-    b[3] = 169;
-    cut(&b, 173);
+    cut(&b, 197);
+    b[3] = 193;
+    cut(&b, 197);
 }
 
 // The longest length that is read, and one more, each with all its bytes.
@@ -134,7 +179,7 @@ fn too_long() {
 
 fn main() {
     let r = fresh();
-    cut(&r, 172);
+    cut(&r, 196);
     each(r);
     cut(&r, 0);
     cut(&r, 1);
@@ -142,8 +187,9 @@ fn main() {
     cut(&r, 3);
     cut(&r, 4);
     cut(&r, 5);
-    cut(&r, 171);
+    cut(&r, 195);
     longer(r);
     longest();
     too_long();
+    longest_record();
 }

@@ -118,6 +118,7 @@ pub(crate) fn settings_at(bytes: &[u8]) -> Settings {
     let initial_action_change = action_at(bytes, 53);
     let max_action_change = action_at(bytes, 73);
     let default_action = action_at(bytes, 93);
+    let ends = point_at(bytes, 113);
     Settings {
         rule_splits,
         optimization_rounds_per_split,
@@ -128,6 +129,7 @@ pub(crate) fn settings_at(bytes: &[u8]) -> Settings {
         initial_action_change,
         max_action_change,
         default_action,
+        ends,
     }
 }
 

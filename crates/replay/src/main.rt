@@ -11,7 +11,7 @@ mod lines;
 mod output;
 
 // The settings and the repeat.
-const HEADER: usize = 122;
+const HEADER: usize = 146;
 
 // One call, or the end of the script.
 fn turn(r: Replay, bytes: &mut [u8], out: &mut [u8]) -> Replay {
@@ -61,7 +61,7 @@ fn start(bytes: &mut [u8], out: &mut [u8]) {
         return;
     }
     let trainer = begun.trainer;
-    match input::sender_at(bytes, 113) {
+    match input::sender_at(bytes, 137) {
         Made::Ready(sender) => run(trainer, sender, bytes, out),
         Made::Refused(number) => refuse(out, number),
     }

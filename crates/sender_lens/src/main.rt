@@ -1,6 +1,7 @@
 // A sender at work, printed: which acks look up, which repeat, and what is refused.
 use libc::STDOUT_FILENO;
 use remy::action::Action;
+use remy::point::Point;
 use rule_tree::RuleTree;
 use sender::Draw;
 use sender::Event;
@@ -63,7 +64,7 @@ fn answered(s: Sender, r: Reply) -> Sender {
 // An ack over a tree of one leaf, whose action adds to the window and waits 0.25 s.
 fn ack(s: Sender, increment: i32, sent: f64, received: f64, draw: Draw) -> Sender {
     let action = Action::new(1.0, increment, 0.25);
-    let tree = RuleTree::new(action).tree;
+    let tree = RuleTree::new(Point::usual_ends(), action).tree;
     let r = s.ack_received(tree, sent, received, draw);
     answered(s, r)
 }
@@ -206,7 +207,7 @@ fn events() {
         RepeatMode::Off,
     );
     let action = Action::new(1.0, 10, 0.25);
-    let tree = RuleTree::new(action).tree;
+    let tree = RuleTree::new(Point::usual_ends(), action).tree;
     let s1 = event(s, tree, Event::Send(2.0));
     let s2 = event(s1, tree, Event::Ack(2.0, 2.5, Draw::Absent));
     let s3 = event(s2, tree, Event::Tick);
@@ -214,6 +215,32 @@ fn events() {
     let mut other = tree;
     other.splits = 65;
     event(s3, other, Event::Tick);
+}
+
+// A tree of one leaf with these upper ends.
+fn tree_to(acks: f64, sends: f64, ratio: f64) -> RuleTree {
+    let action = Action::new(1.0, 10, 0.25);
+    let ends = Point::new(acks, sends, ratio);
+    RuleTree::new(ends, action).tree
+}
+
+fn fast_radio() {
+    let s = start(
+        b"a fast radio, gaps below 1 s: a gap of 1 s, one of 0.75 s, and the first over the usual ends",
+        RepeatMode::Off,
+    );
+    let tree = tree_to(1.0, 1.0, 1000.0);
+    let s1 = event(s, tree, Event::Ack(0.0, 0.5, Draw::Absent));
+    event(s1, tree, Event::Ack(0.5, 1.5, Draw::Absent));
+    event(s1, tree, Event::Ack(0.5, 1.25, Draw::Absent));
+    let usual = tree_to(600.0, 600.0, 1000.0);
+    event(s1, usual, Event::Ack(0.5, 1.5, Draw::Absent));
+    let r = start(
+        b"a ratio below 1: a first ack, whose ratio is 1",
+        RepeatMode::Off,
+    );
+    let narrow = tree_to(600.0, 600.0, 1.0);
+    event(r, narrow, Event::Ack(0.0, 0.5, Draw::Absent));
 }
 
 fn main() {
@@ -225,4 +252,5 @@ fn main() {
     modes();
     sends_and_wakes();
     events();
+    fast_radio();
 }

@@ -1,13 +1,19 @@
 //! What the driver sees of the originals.
 
 use std::{
-    cell::RefCell,
+    any::Any,
+    cell::{Cell, RefCell},
     panic::{catch_unwind, resume_unwind, AssertUnwindSafe},
     sync::atomic::AtomicU64,
 };
 
 use crate::{
-    ccas::remy::{action::Action, dna::RemyDna, rule_tree::RuleTree},
+    ccas::remy::{
+        action::Action,
+        dna::RemyDna,
+        point::Point,
+        rule_tree::{RuleTree, RuleTreeNode},
+    },
     flow::{FlowProperties, NoActiveFlows, UtilityFunction},
     quantities::{seconds, Float, Time},
     simulation::SimulatorBuilder,
@@ -33,6 +39,37 @@ pub trait Host {
 
 thread_local! {
     static HOST: RefCell<Option<Box<dyn Host>>> = const { RefCell::new(None) };
+    static ENDS: Cell<Option<Ends>> = const { Cell::new(None) };
+}
+
+/// Upper ends of a root: ack, send, ratio.
+pub type Ends = [Float; 3];
+
+/// A tree of one leaf as the originals make it, its root with these upper ends.
+pub fn new_tree(ends: Ends, action: Action) -> RuleTree {
+    with_ends(ends, || RuleTree::default(action))
+}
+
+/// The trees that the originals make meanwhile have these upper ends.
+fn with_ends<R>(ends: Ends, make: impl FnOnce() -> R) -> R {
+    let before = ENDS.replace(Some(ends));
+    let made = catch_unwind(AssertUnwindSafe(make));
+    ENDS.set(before);
+    made.unwrap_or_else(|payload| resume_unwind(payload))
+}
+
+/// Every list that the originals make with `vec!`; of a new tree's nodes, the root gets the upper ends.
+pub(crate) fn rooted<T: 'static>(mut list: Vec<T>) -> Vec<T> {
+    let nodes = (&mut list as &mut dyn Any).downcast_mut::<Vec<RuleTreeNode>>();
+    if let (Some([ack, send, ratio]), Some(nodes)) = (ENDS.get(), nodes) {
+        for node in nodes {
+            if let RuleTreeNode::Leaf { domain, .. } = node {
+                domain.max =
+                    Point { ack_ewma: seconds(ack), send_ewma: seconds(send), rtt_ratio: ratio };
+            }
+        }
+    }
+    list
 }
 
 pub(crate) fn ask(asked: Asked<'_>) -> Float {
@@ -46,14 +83,16 @@ pub fn stop() -> ! {
     resume_unwind(Box::new(Stopped))
 }
 
-/// Runs the original `train`. `None` where the host stopped it.
-pub fn train(settings: &RemyTrainer, host: Box<dyn Host>) -> Option<RemyDna> {
+/// Runs the original `train` from a root with these upper ends. `None` where the host stopped it.
+pub fn train(settings: &RemyTrainer, ends: Ends, host: Box<dyn Host>) -> Option<RemyDna> {
     HOST.with(|slot| *slot.borrow_mut() = Some(host));
     let mut progress = |fraction: Float, _: &RemyDna| {
         HOST.with(|host| host.borrow_mut().as_mut().unwrap().progress(fraction));
     };
     let ended = catch_unwind(AssertUnwindSafe(|| {
-        settings.train::<Nowhere>(&Nowhere, &Nowhere, &mut progress, &mut Rng::from_seed(0))
+        with_ends(ends, || {
+            settings.train::<Nowhere>(&Nowhere, &Nowhere, &mut progress, &mut Rng::from_seed(0))
+        })
     }));
     HOST.with(|slot| *slot.borrow_mut() = None);
     match ended {

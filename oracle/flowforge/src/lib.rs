@@ -12,6 +12,13 @@ macro_rules! println {
     };
 }
 
+/// A new tree's root stands in a list of one node: there it gets the upper ends that the driver has given.
+macro_rules! vec {
+    ($($arg:tt)*) => {
+        $crate::harness::rooted(::std::vec![$($arg)*])
+    };
+}
+
 include!(concat!(env!("OUT_DIR"), "/originals.rs"));
 pub use originals::*;
 

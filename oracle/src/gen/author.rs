@@ -5,7 +5,7 @@ use super::{
     Dice,
 };
 use crate::{
-    plain::{Ack, Answer, Cube, Phase, Point, Repeat, Sender, Trainer},
+    plain::{Ack, Answer, Phase, Point, Repeat, Sender, Trainer},
     script::{repeat, Call, Header, Writer},
 };
 
@@ -213,13 +213,14 @@ impl Author {
     pub fn point(&mut self) -> Point {
         let node = self.dice.below(self.trainer.tree.nodes.len());
         let cube = self.trainer.tree.nodes[node].cube;
+        let ends = self.trainer.settings.ends;
         let style = self.dice.below(8);
         std::array::from_fn(|axis| {
             let (min, max) = (cube.min[axis], cube.max[axis]);
             let dice = &mut self.dice;
             match style {
                 0 => edge_float(dice),
-                1 => dice.unit() * Cube::ROOT.max[axis],
+                1 => dice.unit() * ends[axis],
                 2 => min,
                 3 => dice.pick(&[min, max, (min + max) / 2.0]),
                 4 => {
@@ -255,7 +256,7 @@ impl Author {
         }
     }
 
-    /// Mostly one that is taken: after a gap of 600 s, say, a sender is refused for ever.
+    /// Mostly one that is taken: after a gap of an upper end, say, a sender is refused for ever.
     pub fn ack(&mut self) -> Ack {
         let mut ack = self.any_ack();
         for _ in 0..4 {

@@ -6,13 +6,13 @@ use super::{
     author::Author,
     records::unchecked,
     values::{
-        bad_action, calm_header, edge_settings, near_action, small_settings, step, valid_action,
-        vary_settings,
+        self, bad_action, calm_header, edge_ends, edge_settings, near_action, small_settings, step,
+        valid_action, vary_settings,
     },
     Dice, KINDS,
 };
 use crate::{
-    plain::{Phase, Sender, Trainer},
+    plain::{Ack, Phase, Point, Sender, Trainer},
     rust::of_settings,
     script::{repeat, Call, Writer},
 };
@@ -97,7 +97,7 @@ pub fn splits_are_full(author: &mut Author) {
                 let score = author.score();
                 author.call(Call::Score(score));
             }
-            2 => author.call(Call::Reload(author.dice.clone().pick(&[11_051, 11_052, 11_053]))),
+            2 => author.call(Call::Reload(author.dice.clone().pick(&[11_075, 11_076, 11_077]))),
             _ => {
                 let used = author.dice.below(2);
                 let counts = author.counts(used);
@@ -409,7 +409,7 @@ pub fn limits(dice: Dice) -> Vec<u8> {
 
 /// A script of another kind that is cut, or goes on with what is no call.
 pub fn cut(mut dice: Dice) -> Vec<u8> {
-    let others: Vec<_> = KINDS.iter().filter(|(name, _)| !["cut", "undo"].contains(name)).collect();
+    let others: Vec<_> = KINDS.iter().filter(|(name, _)| !["cut", "undo", "ends"].contains(name)).collect();
     let (_, author) = others[dice.below(others.len())];
     let mut script = author(Dice(dice.next()));
     if dice.one_in(2) {
@@ -457,7 +457,7 @@ pub fn mixed(dice: Dice) -> Vec<u8> {
     author.done()
 }
 
-/// Splits taken back: of trees that answers grew, of loaded ones in either version, and of those taken back before.
+/// Splits taken back: of trees that answers grew, of loaded ones in any version, and of those taken back before.
 pub fn undo(dice: Dice) -> Vec<u8> {
     let mut author = Author::small(dice);
     for _ in 0..author.dice.within(2, 12) {
@@ -486,4 +486,77 @@ pub fn undo(dice: Dice) -> Vec<u8> {
         script.extend([17, author.dice.pick(&[15, 16, 18])]);
     }
     script
+}
+
+/// Upper ends of every sort: their trees, senders at their edges, and records in every version.
+pub fn ends(mut dice: Dice) -> Vec<u8> {
+    let mut settings = small_settings(&mut dice, 2);
+    settings.ends = if dice.one_in(8) { edge_ends(&mut dice) } else { values::ends(&mut dice) };
+    let header = calm_header(settings, &mut dice);
+    if header.settings.check().is_err() {
+        return Writer::new(&header).bytes;
+    }
+    let mut author = Author::new(dice, &header);
+    for _ in 0..author.dice.within(3, 40) {
+        match author.dice.below(16) {
+            0 | 1 => {
+                let splits = author.some_splits();
+                author.load_crafted(splits);
+            }
+            2 => {
+                let trainer = Author::regrown(&author.trainer, values::ends(&mut author.dice));
+                let record = author.written(&trainer);
+                author.call(Call::Load(record));
+            }
+            3 => {
+                let other = next_ends(&mut author);
+                let trainer = Author::regrown(&author.another_order(&author.trainer.clone()), other);
+                let record = author.written(&trainer);
+                author.call(Call::Equal(record));
+            }
+            4 | 5 => {
+                let record = author.other_ends(&author.trainer.clone());
+                let call = if author.dice.one_in(3) { Call::Equal(record) } else { Call::Load(record) };
+                author.call(call);
+            }
+            6 => author.call(Call::Reload(u16::MAX)),
+            7 => author.call(if author.dice.clone().one_in(2) { Call::PrintTree } else { Call::UndoSplit }),
+            8 | 9 => {
+                let ack = ack_at_ends(&mut author);
+                author.call(Call::Ack(ack));
+            }
+            10 => {
+                let ends = author.trainer.settings.ends;
+                let point = ends.map(|end| author.dice.pick(&[0.0, end / 2.0, end.next_down(), end]));
+                author.call(Call::Lookup(point));
+            }
+            11 => author.aside(),
+            _ => author.good_answer(),
+        }
+    }
+    author.done()
+}
+
+/// The trainer's upper ends, or others that stand next to them on one axis.
+fn next_ends(author: &mut Author) -> Point {
+    let mut ends = author.trainer.settings.ends;
+    let axis = author.dice.below(3);
+    ends[axis] = step(ends[axis], &mut author.dice);
+    ends
+}
+
+/// An ack whose gaps or whose ratio come near the upper ends.
+fn ack_at_ends(author: &mut Author) -> Ack {
+    let [acks, sends, ratio] = author.trainer.settings.ends;
+    let last_sent = author.sender.last_sent.unwrap_or(0.0);
+    let last_ack = author.sender.last_ack.unwrap_or(1.0);
+    let shortest = author.sender.round_trips.map_or(0.5, |(shortest, _)| shortest);
+    let dice = &mut author.dice;
+    let sent = last_sent + dice.pick(&[0.0, 0.25, sends / 2.0, sends.next_down(), sends]);
+    let received = match dice.below(3) {
+        0 => last_ack + dice.pick(&[0.25, acks / 2.0, acks.next_down(), acks]),
+        1 => sent + shortest * dice.pick(&[1.0, ratio / 2.0, ratio.next_down(), ratio]),
+        _ => sent + shortest,
+    };
+    Ack { sent, received, draw: author.any_ack().draw }
 }

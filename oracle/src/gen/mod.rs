@@ -22,6 +22,7 @@ pub const KINDS: &[(&str, fn(Dice) -> Vec<u8>)] = &[
     ("cut", kinds::cut),
     ("mixed", kinds::mixed),
     ("undo", kinds::undo),
+    ("ends", kinds::ends),
 ];
 
 /// None where there is no such kind.

@@ -2,20 +2,32 @@
 
 use super::{
     author::Author,
-    values::{edge_float, small_settings, valid_action},
+    values::{bad_end, edge_float, end, small_settings, valid_action},
 };
 use crate::{
-    plain::{bits, Kind, Phase, Settings, Trainer, Tree, NAN},
+    plain::{bits, Kind, Phase, Point, Settings, Trainer, Tree, NAN},
     script::Call,
 };
 
 /// Bytes of a record from its phase on.
 const TAIL: usize = 31;
 
+/// Where the upper ends stand, and in the versions without them the number of splits.
+const ENDS: usize = 118;
+
+/// The place of the number of splits.
+fn splits_place(record: &[u8]) -> usize {
+    if record[4] == 3 {
+        ENDS + 24
+    } else {
+        ENDS
+    }
+}
+
 /// A trainer of any settings, before its first answer or after its last.
 pub fn unchecked(settings: Settings) -> Trainer {
     Trainer {
-        tree: Tree::new(settings.default),
+        tree: Tree::new(settings.ends, settings.default),
         stage: settings.rule_splits.wrapping_add(1),
         round: 0,
         phase: Phase::Last,
@@ -44,7 +56,7 @@ impl Author {
             settings = small_settings(&mut self.dice, 2);
         }
         settings.rule_splits = settings.rule_splits.max(self.dice.below(4) as u32);
-        let mut tree = Tree::new(settings.default);
+        let mut tree = Tree::new(settings.ends, settings.default);
         let style = self.dice.below(6);
         for _ in 0..splits {
             self.split_somewhere(&mut tree, style);
@@ -121,13 +133,9 @@ impl Author {
         Some(Phase::Candidates { leaf, best, k, kept, list })
     }
 
-    /// The trainer's record, in either version.
+    /// The trainer's record, in any version.
     pub fn written(&mut self, trainer: &Trainer) -> Vec<u8> {
-        if self.versions.one_in(3) {
-            trainer.first_record()
-        } else {
-            trainer.record()
-        }
+        trainer.record_in(self.versions.pick(&[1, 2, 3, 3]))
     }
 
     pub fn load_crafted(&mut self, splits: usize) {
@@ -163,7 +171,7 @@ impl Author {
         match self.dice.below(4) {
             0 => self.dice.below(18),
             1 => length - 1 - self.dice.below(TAIL + 1),
-            2 => 118 + self.dice.below(length - 118),
+            2 => ENDS + self.dice.below(length - ENDS),
             _ => self.dice.below(length),
         }
     }
@@ -202,7 +210,8 @@ impl Author {
             }
             8 => {
                 let splits = self.dice.pick(&[0u16, 1, 64, 65, 65_535]);
-                bent[118..120].copy_from_slice(&splits.to_be_bytes());
+                let at = splits_place(&bent);
+                bent[at..at + 2].copy_from_slice(&splits.to_be_bytes());
             }
             9 => {
                 let tail = bent.len() - TAIL;
@@ -222,6 +231,35 @@ impl Author {
             }
         }
         bent
+    }
+
+    /// The trainer's record with an upper end that may not hold, two of them changed about, or another version byte.
+    pub fn other_ends(&mut self, trainer: &Trainer) -> Vec<u8> {
+        let mut record = self.written(trainer);
+        let dice = &mut self.dice;
+        let at = ENDS + 8 * dice.below(3);
+        match dice.below(6) {
+            0 => record[4] = dice.pick(&[0, 1, 2, 3, 4]),
+            1 => record[at + dice.below(8)] ^= 1 << dice.below(8),
+            2 => record[ENDS..ENDS + 16].rotate_left(8),
+            3 => record[at..at + 8].copy_from_slice(&end(dice).to_bits().to_be_bytes()),
+            _ => record[at..at + 8].copy_from_slice(&bad_end(dice).to_bits().to_be_bytes()),
+        }
+        record
+    }
+
+    /// The trainer with its tree grown again from a root with these upper ends.
+    pub fn regrown(trainer: &Trainer, ends: Point) -> Trainer {
+        let mut settings = trainer.settings.clone();
+        settings.ends = ends;
+        let mut tree = Tree::new(ends, settings.default);
+        for node in &trainer.tree.splits {
+            tree.split(*node).expect("a leaf, and room");
+        }
+        for node in 0..tree.nodes.len() {
+            tree.hold(node, trainer.tree.held(node));
+        }
+        Trainer { settings, tree, ..trainer.clone() }
     }
 
     /// The trainer's record with the fields from the phase on at their edges.
@@ -279,7 +317,7 @@ impl Author {
 
     /// The same tree grown in another order, so with other node numbers.
     pub fn another_order(&mut self, trainer: &Trainer) -> Trainer {
-        let mut tree = Tree::new(trainer.settings.default);
+        let mut tree = Tree::new(trainer.settings.ends, trainer.settings.default);
         // Pairs of a node there and its twin here.
         let mut open = vec![(0, 0)];
         while !open.is_empty() {

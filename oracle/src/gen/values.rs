@@ -1,8 +1,8 @@
-//! Floats, actions and settings, with a liking for edges.
+//! Floats, actions, upper ends and settings, with a liking for edges.
 
 use super::Dice;
 use crate::{
-    plain::{Action, Settings},
+    plain::{Action, Point, Settings, USUAL_ENDS},
     script::Header,
 };
 
@@ -104,6 +104,63 @@ pub fn bad_action(dice: &mut Dice) -> Action {
     bad
 }
 
+/// An upper end that holds: the least, the greatest and what stands next to them, dyadic ones, and ones whose
+/// middles round.
+pub fn end(dice: &mut Dice) -> f64 {
+    match dice.below(8) {
+        0 => 1.0,
+        1 => 1_000_000.0,
+        2 => {
+            dice.pick(&[1.0f64.next_up(), 1_000_000.0f64.next_down(), 2.0f64.next_down(), 600.0f64.next_up()])
+        }
+        3 => dice.pick(&[1.5, 2.0, 3.25, 64.0, 1024.0, 524_288.0]),
+        4 => dice.pick(&[3.3, 1.1, 1.0 + (0.1 + 0.2), (0.1 + 0.7) * 10.0, 599.9, 1000.0 / 3.0]),
+        5 => 1.0 + dice.unit(),
+        6 => dice.pick(&[600.0, 1000.0]),
+        _ => 1.0 + dice.unit() * 999_999.0,
+    }
+}
+
+pub fn bad_end(dice: &mut Dice) -> f64 {
+    dice.pick(&[
+        1.0f64.next_down(),
+        1_000_000.0f64.next_up(),
+        0.0,
+        -0.0,
+        0.1,
+        -1.0,
+        -600.0,
+        5e-324,
+        f64::MAX,
+        f64::NAN,
+        -f64::NAN,
+        f64::INFINITY,
+        f64::NEG_INFINITY,
+    ])
+}
+
+pub fn ends(dice: &mut Dice) -> Point {
+    std::array::from_fn(|_| end(dice))
+}
+
+/// Mostly with one end that is refused.
+pub fn edge_ends(dice: &mut Dice) -> Point {
+    let mut edge = ends(dice);
+    if !dice.one_in(4) {
+        edge[dice.below(3)] = bad_end(dice);
+    }
+    edge
+}
+
+/// Mostly the usual ones. The dice are of their own: what else is thrown stays.
+fn some_ends(mut dice: Dice) -> Point {
+    if dice.one_in(4) {
+        ends(&mut dice)
+    } else {
+        USUAL_ENDS
+    }
+}
+
 /// The greatest change that gives an axis about `values` values.
 pub fn reach(initial: f64, multiplier: u32, values: usize, dice: &mut Dice) -> f64 {
     if values == 0 {
@@ -132,6 +189,7 @@ pub fn reach_whole(initial: i32, multiplier: u32, values: usize, dice: &mut Dice
 
 /// Settings that hold, with at most `values` values on each axis.
 pub fn small_settings(dice: &mut Dice, values: usize) -> Settings {
+    let ends = some_ends(dice.beside());
     let multiplier = dice.pick(&[2, 2, 3, 4, 7, 13, 16]);
     let (odd, odder) = (dice.unit() + 0.001, dice.unit() * 0.01 + 1e-6);
     let initial_change = action(
@@ -173,6 +231,7 @@ pub fn small_settings(dice: &mut Dice, values: usize) -> Settings {
         initial_change,
         max_change,
         default,
+        ends,
     }
 }
 
@@ -231,7 +290,7 @@ pub fn vary_settings(s: &mut Settings, dice: &mut Dice) {
             s.initial_change.increment = 1;
             s.max_change.increment = reach_whole(1, s.multiplier.clamp(2, 16), values, dice);
         }
-        _ => {}
+        _ => s.ends = edge_ends(dice),
     }
     // With an axis that is empty anyway, a zero initial change is all that is wrong.
     if dice.one_in(3) && s.initial_change.multiplier == 0.0 {

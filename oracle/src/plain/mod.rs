@@ -8,7 +8,7 @@ mod trainer;
 mod tree;
 
 pub use sender::{Ack, Repeat, Sender};
-pub use settings::Settings;
+pub use settings::{Settings, USUAL_ENDS};
 pub use trainer::{Answer, Change, Phase, Trainer};
 pub use tree::{Kind, Tree};
 
@@ -45,7 +45,10 @@ pub struct Cube {
 }
 
 impl Cube {
-    pub const ROOT: Cube = Cube { min: [0.0; 3], max: [600.0, 600.0, 1000.0] };
+    /// The root with these upper ends; the lower ones are 0.
+    pub fn root(ends: Point) -> Cube {
+        Cube { min: [0.0; 3], max: ends }
+    }
 
     pub fn contains(&self, point: &Point) -> bool {
         (0..3).all(|axis| self.min[axis] <= point[axis] && point[axis] < self.max[axis])

@@ -1,9 +1,10 @@
 //! The record: big-endian, the length of what follows first.
 
-use super::{Action, Phase, Refused, Settings, Trainer, Tree, NAN};
+use super::{Action, Phase, Point, Refused, Settings, Trainer, Tree, NAN, USUAL_ENDS};
 
-/// The version that is saved, with every node; the first has the leaves alone.
-const VERSION: u8 = 2;
+/// The version that is saved, with every node and the upper ends. The second has no ends; the first has none either, and of the
+/// nodes the leaves alone.
+const VERSION: u8 = 3;
 const FIRST: u8 = 1;
 const LONGEST: usize = 16_384;
 const NONE_KEPT: u16 = 65_535;
@@ -48,6 +49,10 @@ impl Fields<'_> {
         self.take().map(u64::from_be_bytes)
     }
 
+    fn point(&mut self) -> Result<Point, Refused> {
+        Ok([f64::from_bits(self.u64()?), f64::from_bits(self.u64()?), f64::from_bits(self.u64()?)])
+    }
+
     fn action(&mut self) -> Result<Action, Refused> {
         let action = Action {
             multiplier: f64::from_bits(self.u64()?),
@@ -67,12 +72,8 @@ impl Trainer {
         self.record_in(VERSION)
     }
 
-    /// The record as version 1 had it: what parents hold is not in it.
-    pub fn first_record(&self) -> Vec<u8> {
-        self.record_in(FIRST)
-    }
-
-    fn record_in(&self, version: u8) -> Vec<u8> {
+    /// The record as this version has it: what parents hold is not in version 1, the ends are in version 3 alone.
+    pub fn record_in(&self, version: u8) -> Vec<u8> {
         let mut out = vec![0; 4];
         out.push(version);
         let settings = &self.settings;
@@ -84,6 +85,11 @@ impl Trainer {
             [&settings.min, &settings.max, &settings.initial_change, &settings.max_change, &settings.default]
         {
             put_action(&mut out, action);
+        }
+        if version == VERSION {
+            for end in settings.ends {
+                out.extend(end.to_bits().to_be_bytes());
+            }
         }
         out.extend((self.tree.splits.len() as u16).to_be_bytes());
         for node in &self.tree.splits {
@@ -128,7 +134,7 @@ impl Trainer {
             return Err(7);
         }
         let mut fields = Fields(body);
-        let settings = Self::load_settings(&mut fields)?;
+        let settings = Self::load_settings(&mut fields, *version)?;
         let tree = Self::load_tree(&mut fields, &settings, *version)?;
         let trainer = Self::load_phase(&mut fields, settings, tree)?;
         if fields.0.is_empty() {
@@ -138,7 +144,7 @@ impl Trainer {
         }
     }
 
-    fn load_settings(fields: &mut Fields) -> Result<Settings, Refused> {
+    fn load_settings(fields: &mut Fields, version: u8) -> Result<Settings, Refused> {
         let settings = Settings {
             rule_splits: fields.u32()?,
             rounds: fields.u32()?,
@@ -149,6 +155,7 @@ impl Trainer {
             initial_change: fields.action()?,
             max_change: fields.action()?,
             default: fields.action()?,
+            ends: if version == VERSION { fields.point()? } else { USUAL_ENDS },
         };
         settings.check().map_err(|_| 8u32)?;
         Ok(settings)
@@ -156,7 +163,7 @@ impl Trainer {
 
     /// Where parents are not written, they hold the default action, unmarked, as the splits left them.
     fn load_tree(fields: &mut Fields, settings: &Settings, version: u8) -> Result<Tree, Refused> {
-        let mut tree = Tree::new(settings.default);
+        let mut tree = Tree::new(settings.ends, settings.default);
         for _ in 0..fields.u16()? {
             let node = fields.u16()?;
             tree.split(node as usize).map_err(|_| 8u32)?;

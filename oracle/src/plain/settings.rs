@@ -1,7 +1,10 @@
-use super::{Action, Refused};
+use super::{Action, Point, Refused};
 
 const AXIS: usize = 8;
 const CHANGE_INCREMENT: i32 = 65_536;
+
+/// The upper ends of a record that has none.
+pub const USUAL_ENDS: Point = [600.0, 600.0, 1000.0];
 
 #[derive(Clone, Debug)]
 pub struct Settings {
@@ -14,6 +17,8 @@ pub struct Settings {
     pub initial_change: Action,
     pub max_change: Action,
     pub default: Action,
+    /// The upper ends of the root: ack, send, ratio.
+    pub ends: Point,
 }
 
 /// Initial, then times the multiplier each, while at most the greatest; refused with more than 8.
@@ -42,7 +47,8 @@ impl Settings {
             && initial.increment > 0
             && initial.delay > 0.0
             && initial.increment <= CHANGE_INCREMENT
-            && self.max_change.increment <= CHANGE_INCREMENT;
+            && self.max_change.increment <= CHANGE_INCREMENT
+            && self.ends.iter().all(|end| (1.0..=1_000_000.0).contains(end));
         if holds {
             self.axes().map(|_| ())
         } else {

@@ -63,7 +63,7 @@ impl Phase {
 impl Trainer {
     pub fn start(settings: Settings) -> Result<Trainer, Refused> {
         settings.check()?;
-        let tree = Tree::new(settings.default);
+        let tree = Tree::new(settings.ends, settings.default);
         let mut trainer = Trainer { settings, tree, stage: 0, round: 0, phase: Phase::Done };
         trainer.begin_stage(0);
         Ok(trainer)

@@ -31,9 +31,9 @@ pub struct Tree {
 }
 
 impl Tree {
-    pub fn new(action: Action) -> Tree {
+    pub fn new(ends: Point, action: Action) -> Tree {
         Tree {
-            nodes: vec![Node { cube: Cube::ROOT, kind: Kind::Leaf { action, mark: false } }],
+            nodes: vec![Node { cube: Cube::root(ends), kind: Kind::Leaf { action, mark: false } }],
             splits: Vec::new(),
         }
     }

@@ -1,4 +1,4 @@
--- `record_lens::each` ends: 172 turns. Assumes nothing.
+-- `record_lens::each` ends: 196 turns. Assumes nothing.
 use borrow.Author.Needs.{needs}
 use Prim.Native.Nat.{_≤_, _-_}
 use native.Mathlib.Omega.{arith}
@@ -6,10 +6,10 @@ use Rattle.record_lens.proofs.each.Statement.{statement}
 use Rattle.record_lens.proofs.each.Tie as tie
 
 abbrev Inv-loop : tie.InvT-loop
-Inv-loop r i₀ i = i ≤ 172
+Inv-loop r i₀ i = i ≤ 196
 
 abbrev μ-loop : tie.MeasureT-loop
-μ-loop r i₀ i = 172 - i
+μ-loop r i₀ i = 196 - i
 
 loop-holds : tie.Need-loop-holds Inv-loop μ-loop
 loop-holds c = omega arith
