@@ -26,7 +26,7 @@ fn same(list: &[u8], actions: &[RustAction]) {
 }
 
 fn candidates_of(table: &mut Table, settings: &Settings, count: usize, calls: usize) {
-    let bytes = &Trainer::start(settings.clone()).unwrap().record()[5..118];
+    let bytes = &Trainer::start(settings.clone()).unwrap().record()[5..142];
     let action = &bytes[93..113];
     let originals = as_given(settings);
     let default = to_action(&settings.default);

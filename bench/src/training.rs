@@ -44,8 +44,8 @@ fn group(list: &mut Vec<u8>, kind: u8, numbers: impl ExactSizeIterator<Item = u6
 
 /// By the calls of the library, one list of counts or one row of scores a call. What each question was goes to
 /// `tell`, and the answers to `journal`.
-fn ours(settings: &[u8; 113], mut tell: impl FnMut(Told), mut journal: impl FnMut(&[u8])) -> Vec<u8> {
-    let (mut record, mut next) = (vec![0; 11_052], vec![0; 11_052]);
+fn ours(settings: &[u8; 137], mut tell: impl FnMut(Told), mut journal: impl FnMut(&[u8])) -> Vec<u8> {
+    let (mut record, mut next) = (vec![0; 11_076], vec![0; 11_076]);
     let mut length = size(raw::start(settings, &mut record));
     let mut question = [0; 31];
     let mut row = vec![0; 20 * 4097];
@@ -57,7 +57,7 @@ fn ours(settings: &[u8; 113], mut tell: impl FnMut(Told), mut journal: impl FnMu
         match question[0] {
             1 => {
                 tell(None);
-                let nodes = 1 + 8 * usize::from(u16::from_be_bytes([held[118], held[119]]));
+                let nodes = 1 + 8 * usize::from(u16::from_be_bytes([held[142], held[143]]));
                 let mut counts = [0; 513];
                 used(nodes).for_each(|(node, count)| counts[node] = count);
                 group(&mut list, 1, counts[..nodes].iter().copied());
@@ -85,8 +85,8 @@ fn ours(settings: &[u8; 113], mut tell: impl FnMut(Told), mut journal: impl FnMu
 }
 
 /// The same answers in one call.
-fn ours_at_once(settings: &[u8; 113], list: &[u8], record: &mut [u8; 11_052]) -> usize {
-    let mut fresh = [0; 11_052];
+fn ours_at_once(settings: &[u8; 137], list: &[u8], record: &mut [u8; 11_076]) -> usize {
+    let mut fresh = [0; 11_076];
     let length = size(raw::start(settings, &mut fresh));
     size(raw::answers(&fresh[..length], list, record))
 }
@@ -144,11 +144,14 @@ pub fn whole(table: &mut Table) {
         optimization_rounds_per_split: ROUNDS,
         ..RemyTrainer::default()
     };
-    let settings =
-        knellstone::Settings { rule_splits: RULE_SPLITS, rounds: ROUNDS, ..knellstone::Settings::default() };
+    let settings = knellstone::Settings {
+        rule_splits: RULE_SPLITS,
+        optimization_rounds_per_split: ROUNDS,
+        ..knellstone::Settings::default()
+    };
     let settings = settings.to_bytes();
     let fresh = Trainer::start(of_settings(&originals)).unwrap().record();
-    assert_eq!(fresh[5..118], settings, "both sides have the same settings");
+    assert_eq!(fresh[5..142], settings, "both sides have the same settings");
 
     let (mut asked, mut list, mut rows) = (Vec::new(), Vec::new(), 0);
     let record = ours(
@@ -170,7 +173,7 @@ pub fn whole(table: &mut Table) {
     let of =
         |told: &(usize, u64, i32, u64)| score(told.0, f64::from_bits(told.1), told.2, f64::from_bits(told.3));
     let scores: Vec<f64> = asked.iter().flatten().map(of).collect();
-    let mut last = [0; 11_052];
+    let mut last = [0; 11_076];
     assert_eq!(ours_at_once(&settings, &list, &mut last), record.len());
     assert_eq!(last[..record.len()], record, "the same record");
     same_tree(

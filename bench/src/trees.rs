@@ -65,7 +65,7 @@ fn grown(name: &'static str, split: impl Fn(&mut Tree), acks: Vec<(f64, f64)>) -
     let record = trainer.record();
     let original = grow(&trainer.settings, &trainer.tree);
     same_tree("the grown tree", &original, &trainer.tree);
-    assert_eq!(record.len(), 11_052);
+    assert_eq!(record.len(), 11_076);
     size(raw::question(&record, &mut [0; 31]));
     Grown { name, trainer, record, original, depths, acks }
 }

@@ -18,12 +18,13 @@ extern "C" {
 #define KNELLSTONE_REFUSED UINT64_C(0x8000000000000000)
 
 /* Sizes in bytes. */
-#define KNELLSTONE_SETTINGS 113      /* u32 rule_splits, rounds, multiplier; drill byte; five actions */
+#define KNELLSTONE_SETTINGS 137      /* u32 rule_splits, rounds, multiplier; drill byte; five actions; upper ends */
 #define KNELLSTONE_ACTION 20         /* multiplier 8, increment 4, delay 8 */
 #define KNELLSTONE_POINT 24          /* ack, send, ratio */
 #define KNELLSTONE_FOUND 21          /* 1 and an action, or zeros */
 #define KNELLSTONE_QUESTION 31       /* kind (1 counts, 2 score, 3 done), u16 leaf, action, progress */
-#define KNELLSTONE_RECORD_MOST 11052 /* a record of 64 splits */
+#define KNELLSTONE_RECORD_FRESH 196  /* a record of no split; each split adds 170 */
+#define KNELLSTONE_RECORD_MOST 11076 /* a record of 64 splits */
 #define KNELLSTONE_MODE 9            /* 0 off, 1 always, 2 lo..=hi; u32 lo, u32 hi */
 #define KNELLSTONE_SENDER 108        /* docs/HOSTS.md has its layout */
 #define KNELLSTONE_EVENT 22          /* 0 ack, 1 send, 2 tick; sent 8, received 8; draw flag, u32 draw */
@@ -34,7 +35,8 @@ static inline uint32_t knellstone_refusal(uint64_t answer) {
     return answer >= KNELLSTONE_REFUSED ? (uint32_t)(answer - KNELLSTONE_REFUSED) : 0;
 }
 
-/* Starts a trainer by its settings and writes its record. 2, 9 */
+/* Starts a trainer by its settings and writes its record. The upper ends of the root box, ack, send and ratio, are
+ * floats from 1 to 1,000,000; its lower ends are 0. 2, 9 */
 uint64_t knellstone_start(const uint8_t *settings, size_t settings_len, uint8_t *record, size_t record_len);
 
 /* What the trainer of a record asks. 6, 7, 8, 9 */
@@ -50,8 +52,8 @@ uint64_t knellstone_answer_score(const uint8_t *record, size_t record_len, uint6
 
 /* Answers in turn, in one call, and writes the record after the last. The list is of groups: 1 and counts or 2 and
  * scores, how many of them in 2 bytes, then 8 bytes each. All are taken, or the call is refused for the first that is
- * not. With an empty list the record is written again: one of version 1 as version 2. 6, 7, 8, then 6 for a group that
- * is cut or of another kind, 21, 4, 20, then 9 */
+ * not. With an empty list the record is written again: one of version 1 or 2 as version 3, with the ends 600, 600 and
+ * 1000. 6, 7, 8, then 6 for a group that is cut or of another kind, 21, 4, 20, then 9 */
 uint64_t knellstone_answers(const uint8_t *record, size_t record_len, const uint8_t *list, size_t list_len,
                             uint8_t *next, size_t next_len);
 

@@ -29,7 +29,7 @@ use Rattle.host_answers.proofs.Scores.{held-from, on-refused, on-taken,
 
 -- ---- the trainer of a record
 read-whole : (lay : Layout) (held : List ℕ) → length (readIn lay held .tree .nodes) ≡ 513
-read-whole lay held = length-tabulate 513 (nodeAtPlace lay (givenAction (settingsAt held 5)) held (splitCount lay held))
+read-whole lay held = length-tabulate 513 (nodeAtPlace lay (givenAction (settingsAt lay held 5)) held (splitCount lay held))
 
 load-whole : (held : List ℕ) → length (loadOf held .trainer .tree .nodes) ≡ 513
 unfolding loadOf
@@ -39,9 +39,9 @@ load-whole held = go (lengthHolds held) (versionHolds held) (bodyHolds held)
         → length (cond a (cond b (cond c (taken (readOf held)) (refuse 8 blankTrainer)) (refuse 7 blankTrainer)) (refuse 6 blankTrainer) .trainer .tree .nodes)
         ≡ 513
     go true true true = read-whole (layoutOf (versionAt held)) held
-    go true true false = fresh-length cube.usualEnds noAction
-    go true false c = fresh-length cube.usualEnds noAction
-    go false b c = fresh-length cube.usualEnds noAction
+    go true true false = fresh-length (cube.pointOf cube.zero cube.zero cube.zero) noAction
+    go true false c = fresh-length (cube.pointOf cube.zero cube.zero cube.zero) noAction
+    go false b c = fresh-length (cube.pointOf cube.zero cube.zero cube.zero) noAction
 
 pub load-ready : (held : List ℕ) {a : Answered} → a ≡ loadOf held → a .refused ≡ 0 → Ready (a .trainer)
 load-ready held {a} e z =

@@ -14,10 +14,9 @@ use Rattle.trainer.specs.State.{acceptedOf}
 use Rattle.record.specs.declared.Saved.{Saved}
 use Rattle.record.specs.declared.Saved.the-variants.{Size, Refused}
 use Rattle.wire.specs.Fields.{actionAt}
-use Rattle.record.specs.Read.{settingsAt}
 use Rattle.record.specs.Calls.{loadOf}
 use Rattle.record.proofs.Loading.{load-again}
-use Rattle.host_trainer.specs.Records.{settingsWhole}
+use Rattle.host_trainer.specs.Records.{settingsWhole, settingsIn}
 use Rattle.host_lists.specs.Lists.{listAfter, candidatesIn, candidatesAfter, askedInARow, rowIn, rowAfter, equalIn}
 use Rattle.host_lists.specs.Parts.{candidatesWith}
 use Rattle.host_lists.proofs.Listing.{Wrote}
@@ -53,35 +52,35 @@ module _ (settings action out : List ℕ) where
   abbrev pub In : Saved → List ℕ → Type 0
   In r l = (r ≡ candidatesIn settings action out) × (l ≡ candidatesAfter settings action out)
 
-  whole : {x : ℕ} → length settings ≡ 113 → x ≡ getD settings 12 0 → x ≤ 1 → settingsWhole settings ≡ true
+  whole : {x : ℕ} → length settings ≡ 137 → x ≡ getD settings 12 0 → x ≤ 1 → settingsWhole settings ≡ true
   unfolding settingsWhole
-  whole {x} e q h = rw (eq-eqb (length settings) 113 e, ← q, le-leb x 1 h)
+  whole {x} e q h = rw (eq-eqb (length settings) 137 e, ← q, le-leb x 1 h)
 
-  tested : settingsWhole settings ≡ true → settingsHold (settingsAt settings 0) ≡ true → candidatesWith (settingsAt settings 0) action out ≡ candidatesIn settings action out
+  tested : settingsWhole settings ≡ true → settingsHold (settingsIn settings) ≡ true → candidatesWith (settingsIn settings) action out ≡ candidatesIn settings action out
   unfolding candidatesIn candidatesWith
   tested w h = rw (w, h)
 
-  pub candidates-taken : {x : ℕ} {s : Settings} {r : Saved} {l : List ℕ} → length settings ≡ 113 → x ≡ getD settings 12 0 → x ≤ 1
-      → s ≡ settingsAt settings 0 → settingsHold s ≡ true → With s action out r l → In r l
+  pub candidates-taken : {x : ℕ} {s : Settings} {r : Saved} {l : List ℕ} → length settings ≡ 137 → x ≡ getD settings 12 0 → x ≤ 1
+      → s ≡ settingsIn settings → settingsHold s ≡ true → With s action out r l → In r l
   candidates-taken {x} {s} {r} {l} e q h es hs p =
       let w = subst (λ (z : Settings). With z action out r l) es p in
       let f = tested (whole e q h) (ap settingsHold (sym es) ∙ hs) in
-      (w .0 ∙ f, w .1 ∙ ap (listAfter (candidatesOf (settingsAt settings 0) (actionAt action 0)) out) f)
+      (w .0 ∙ f, w .1 ∙ ap (listAfter (candidatesOf (settingsIn settings) (actionAt action 0)) out) f)
 
-  pub candidates-bad : {x : ℕ} {s : Settings} → length settings ≡ 113 → x ≡ getD settings 12 0 → x ≤ 1 → s ≡ settingsAt settings 0
+  pub candidates-bad : {x : ℕ} {s : Settings} → length settings ≡ 137 → x ≡ getD settings 12 0 → x ≤ 1 → s ≡ settingsIn settings
       → settingsHold s ≡ false → In (Refused 2) out
   unfolding candidatesIn listAfter
   candidates-bad e q h es hs =
-      let f : settingsHold (settingsAt settings 0) ≡ false = ap settingsHold (sym es) ∙ hs in
+      let f : settingsHold (settingsIn settings) ≡ false = ap settingsHold (sym es) ∙ hs in
       rw (whole e q h, f) (refl, refl)
 
-  pub candidates-drill : {x : ℕ} → length settings ≡ 113 → x ≡ getD settings 12 0 → 1 < x → In (Refused 2) out
+  pub candidates-drill : {x : ℕ} → length settings ≡ 137 → x ≡ getD settings 12 0 → 1 < x → In (Refused 2) out
   unfolding candidatesIn listAfter settingsWhole
-  candidates-drill {x} e q h = rw (eq-eqb (length settings) 113 e, ← q, lt-leb x 1 h) (refl, refl)
+  candidates-drill {x} e q h = rw (eq-eqb (length settings) 137 e, ← q, lt-leb x 1 h) (refl, refl)
 
-  pub candidates-length : (length settings ≡ 113 → ⊥) → In (Refused 2) out
+  pub candidates-length : (length settings ≡ 137 → ⊥) → In (Refused 2) out
   unfolding candidatesIn listAfter settingsWhole
-  candidates-length n = rw (ne-eqb (length settings) 113 n) (refl, refl)
+  candidates-length n = rw (ne-eqb (length settings) 137 n) (refl, refl)
 
 -- ---- what the trainer of a record asks for in a row
 pub loaded : (held : List ℕ) (a : Answered) → a ≡ loadOf held → a .refused ≡ 0 → acceptedOf (a .trainer) ≡ true

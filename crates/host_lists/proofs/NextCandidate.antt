@@ -12,11 +12,11 @@ use Rattle.rule_tree.specs.Grown.{grownOf}
 use Rattle.trainer.specs.declared.Trainer.{Trainer}
 use Rattle.trainer.specs.Settings.{settingsHold}
 use Rattle.trainer.specs.Candidates.{candidatesOf}
-use Rattle.trainer.specs.State.{none, trying, zeroBits, keptIn, keptHolds, leafAction, leafHolds, tryHolds, tuning, phaseHolds, acceptedOf}
+use Rattle.trainer.specs.State.{none, trying, zeroBits, keptIn, keptHolds, leafAction, leafHolds, tryHolds, tuning, boxHolds, phaseHolds, acceptedOf}
 use Rattle.rule_tree.proofs.Counting.{and-both}
 use Rattle.trainer.proofs.Holds.{and-left, and-right}
 use Rattle.trainer.proofs.AcceptWays.{accepted-is, phase-is}
-use Rattle.trainer.proofs.AcceptedFacts.{accepted-settings, accepted-grown}
+use Rattle.trainer.proofs.AcceptedFacts.{accepted-settings, accepted-grown, accepted-box}
 use Rattle.host_lists.specs.Lists.{askedInARow}
 use Rattle.host_lists.proofs.Rows.{asked-five}
 
@@ -24,6 +24,10 @@ use Rattle.host_lists.proofs.Rows.{asked-five}
 module _ (t : Trainer) (best : Float) (k kept : ℕ) (score : Float) where
   abbrev pub next : Trainer
   next = trying (t .settings) (t .tree) (t .stage) (t .round) (t .leaf) best k kept score
+
+  next-box : boxHolds t ≡ true → boxHolds next ≡ true
+  unfolding boxHolds
+  next-box h = h
 
   next-tunes : tuning t ≡ true → tuning next ≡ true
   unfolding tuning
@@ -43,9 +47,10 @@ module _ (t : Trainer) (best : Float) (k kept : ℕ) (score : Float) where
       → keptIn best k kept score ≡ true → acceptedOf next ≡ true
   next-accepted h u v l q =
       accepted-is next
-      ∙ and-both (settingsHold (t .settings)) (grownOf (t .tree) && phaseHolds next) (accepted-settings t h)
-      (and-both (grownOf (t .tree)) (phaseHolds next) (accepted-grown t h)
-      (phase-is next ∙ and-both (tuning next) (leafHolds next && tryHolds next) (next-tunes u) (and-both (leafHolds next) (tryHolds next) (next-leaf v) (next-tries l q))))
+      ∙ and-both (settingsHold (t .settings)) (grownOf (t .tree) && (boxHolds next && phaseHolds next)) (accepted-settings t h)
+      (and-both (grownOf (t .tree)) (boxHolds next && phaseHolds next) (accepted-grown t h)
+      (and-both (boxHolds next) (phaseHolds next) (next-box (accepted-box t h))
+      (phase-is next ∙ and-both (tuning next) (leafHolds next && tryHolds next) (next-tunes u) (and-both (leafHolds next) (tryHolds next) (next-leaf v) (next-tries l q)))))
 
   pub next-row : askedInARow next ≡ drop k (candidatesOf (t .settings) (leafAction t))
   next-row = asked-five next (λ e. absurd (let q : _≡_ {A = ℕ} 5 4 = e in omega arith)) refl

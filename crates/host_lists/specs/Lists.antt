@@ -17,8 +17,7 @@ use Rattle.record.specs.declared.Saved.{Saved}
 use Rattle.record.specs.declared.Saved.the-variants.{Size, Refused}
 use Rattle.wire.specs.Fields.{actionBytes}
 use Rattle.wire.specs.Fields.{actionAt}
-use Rattle.record.specs.Read.{settingsAt}
-use Rattle.host_trainer.specs.Records.{settingsWhole}
+use Rattle.host_trainer.specs.Records.{settingsWhole, settingsIn}
 
 -- 20 bytes an action
 unfoldable pub listBytes : List Action → List ℕ
@@ -35,12 +34,12 @@ listAfter xs out (Size n) = listBytes xs ++ drop n out
 listAfter xs out (Refused k) = out
 
 abbrev pub candidatesFor : List ℕ → List ℕ → List Action
-candidatesFor settings action = candidatesOf (settingsAt settings 0) (actionAt action 0)
+candidatesFor settings action = candidatesOf (settingsIn settings) (actionAt action 0)
 
 -- settings as a start takes them: 2; an action of another length than 20: 6; an action that is not valid: 1; 9
 unfoldable pub candidatesIn : List ℕ → List ℕ → List ℕ → Saved
 candidatesIn settings action out =
-    cond (settingsWhole settings && settingsHold (settingsAt settings 0))
+    cond (settingsWhole settings && settingsHold (settingsIn settings))
     (cond (eqb (length action) 20) (cond (validOf (actionAt action 0)) (listFits (candidatesFor settings action) out) (Refused notAdmitted)) (Refused badLength))
     (Refused badSettings)
 

@@ -3,6 +3,7 @@ ghost use mathlib.Core.Path.{_≡_};
 ghost use Rattle.record.specs.Calls.{loadOf};
 ghost use Rattle.host_lists.specs.Lists.{candidatesIn, candidatesAfter, rowIn, rowAfter, equalIn};
 use crate::inner::rows;
+use host_trainer::inner::records;
 use record::Saved;
 use wire::inner::read;
 
@@ -12,9 +13,9 @@ pub mod inner;
 pub fn candidates(settings: &[u8], action: &[u8], out: &mut [u8]) -> Saved
     ensures { λ r. ⌜ (r ≡ candidatesIn (now (settings .entry)) (now (action .entry)) (now (out .entry))) × (now (out .exit) ≡ candidatesAfter (now (settings .entry)) (now (action .entry)) (now (out .entry))) ⌝ }
 {
-    if settings.len() == 113 {
+    if settings.len() == 137 {
         if read::byte_at(settings, 12) <= 1 {
-            let s = record::inner::read::settings_at(settings, 0);
+            let s = records::settings_in(settings);
             if s.hold() {
                 return rows::candidates_with(s, action, out);
             }

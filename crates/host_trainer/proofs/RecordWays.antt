@@ -20,9 +20,12 @@ use Rattle.trainer.specs.Calls.{blankTrainer, startOf, answerCountsOf, answerSc
 use Rattle.record.specs.declared.Saved.{Saved}
 use Rattle.record.specs.declared.Saved.the-variants.{Refused}
 use Rattle.wire.specs.Bytes.{numberAt}
+use Rattle.record.specs.declared.inner.layout.Layout.{Layout}
+use Rattle.record.specs.Layout.{layoutOf}
+use Rattle.record.specs.Write.{version}
 use Rattle.record.specs.Read.{settingsAt}
 use Rattle.record.specs.Calls.{saveOf, bufferAfter, loadOf}
-use Rattle.host_trainer.specs.Records.{settingsWhole, startIn, onTrainer, countsIn, countsAnswered, scoreAnswered, writtenOf, recordAfter}
+use Rattle.host_trainer.specs.Records.{settingsWhole, settingsIn, startIn, onTrainer, countsIn, countsAnswered, scoreAnswered, writtenOf, recordAfter}
 use Rattle.host_trainer.specs.Parts.{countOf}
 
 -- ---- the record after a call
@@ -43,22 +46,25 @@ pub written-as : {a b : Answered} (out : List ℕ) {r : Saved} {l : List ℕ} �
 written-as out e p = (p .0 ∙ ap (λ (z : Answered). writtenOf z out) e, p .1 ∙ ap (λ (z : Answered). recordAfter z out) e)
 
 -- ---- start
+pub settings-in : (bytes : List ℕ) {l : Layout} {s : Settings} → l ≡ layoutOf version → s ≡ settingsAt l bytes 0 → s ≡ settingsIn bytes
+settings-in bytes e p = p ∙ ap (λ (z : Layout). settingsAt z bytes 0) e
+
 module _ (bytes : List ℕ) {r : Answered} where
-  pub start-taken : {b : ℕ} {s : Settings} → length bytes ≡ 113 → b ≡ getD bytes 12 0 → b ≤ 1 → s ≡ settingsAt bytes 0 → r ≡ startOf s → r ≡ startIn bytes
+  pub start-taken : {b : ℕ} {s : Settings} → length bytes ≡ 137 → b ≡ getD bytes 12 0 → b ≤ 1 → s ≡ settingsIn bytes → r ≡ startOf s → r ≡ startIn bytes
   unfolding startIn settingsWhole
   start-taken {b} long e l p q =
       let d : leb (getD bytes 12 0) 1 ≡ true = ap (λ (k : ℕ). leb k 1) (sym e) ∙ le-leb b 1 l in
-      rw (eq-eqb (length bytes) 113 long, d) (q ∙ ap startOf p)
+      rw (eq-eqb (length bytes) 137 long, d) (q ∙ ap startOf p)
 
-  pub start-other : (length bytes ≡ 113 → ⊥) → r ≡ refuse 2 blankTrainer → r ≡ startIn bytes
+  pub start-other : (length bytes ≡ 137 → ⊥) → r ≡ refuse 2 blankTrainer → r ≡ startIn bytes
   unfolding startIn settingsWhole
-  start-other n q = rw (ne-eqb (length bytes) 113 n) q
+  start-other n q = rw (ne-eqb (length bytes) 137 n) q
 
-  pub start-drill : {b : ℕ} → length bytes ≡ 113 → b ≡ getD bytes 12 0 → 1 < b → r ≡ refuse 2 blankTrainer → r ≡ startIn bytes
+  pub start-drill : {b : ℕ} → length bytes ≡ 137 → b ≡ getD bytes 12 0 → 1 < b → r ≡ refuse 2 blankTrainer → r ≡ startIn bytes
   unfolding startIn settingsWhole
   start-drill {b} long e l q =
       let d : leb (getD bytes 12 0) 1 ≡ false = ap (λ (k : ℕ). leb k 1) (sym e) ∙ lt-leb b 1 l in
-      rw (eq-eqb (length bytes) 113 long, d) q
+      rw (eq-eqb (length bytes) 137 long, d) q
 
 -- ---- what is done to the trainer of a record
 pub on-taken : (a : Answered) (f : Trainer → Answered) → a .refused ≡ 0 → f (a .trainer) ≡ onTrainer a f

@@ -20,12 +20,12 @@ use Rattle.trainer.specs.Calls.{blankTrainer, started, startOf, questionOf, ans
 use Rattle.trainer.proofs.Accepting.{Held, start-held, counts-held, score-held}
 use Rattle.record.specs.declared.Saved.{Saved}
 use Rattle.record.specs.declared.Saved.the-variants.{Size, Refused}
-use Rattle.record.specs.Write.{recordOf}
-use Rattle.record.specs.Read.{settingsAt}
+use Rattle.record.specs.Layout.{layoutOf}
+use Rattle.record.specs.Write.{version, recordOf}
 use Rattle.record.specs.Calls.{saveOf, bufferAfter, loadOf}
 use Rattle.record.proofs.RoundTrip.{TrainerFits}
 use Rattle.record.proofs.Loading.{load-saved, load-again}
-use Rattle.host_trainer.specs.Records.{settingsWhole, startIn, onTrainer, countsIn, countsAnswered, scoreAnswered, writtenOf, recordAfter}
+use Rattle.host_trainer.specs.Records.{settingsWhole, settingsIn, startIn, onTrainer, countsIn, countsAnswered, scoreAnswered, writtenOf, recordAfter}
 use Rattle.host_trainer.specs.Questions.{fitted, questionIn, questionAfter, askedIn, askedAfter}
 use Rattle.host_trainer.specs.Parts.{questionPut}
 use Rattle.host_trainer.specs.Runs.{Answer, counts, score, Call, Seen, hostAnswer, numberOf, heldAfter, hostNext, hostSees, hostRun, valueAnswer, valueTaken, valueCall, valueSees, valueRun}
@@ -200,14 +200,14 @@ pub record-same : (held : List ℕ) (t : Trainer) (cs : List Call) → Bytes hel
 record-same held t cs bytes e = run-same held t cs (record { loads = e; fits = loaded-fits held t bytes e })
 
 -- ---- a start
-start-facts : (bytes : List ℕ) → startIn bytes .refused ≡ 0 → (settingsHold (settingsAt bytes 0) ≡ true) × (startIn bytes ≡ taken (started (settingsAt bytes 0)))
+start-facts : (bytes : List ℕ) → startIn bytes .refused ≡ 0 → (settingsHold (settingsIn bytes) ≡ true) × (startIn bytes ≡ taken (started (settingsIn bytes)))
 unfolding startIn startOf
-start-facts bytes e = go (settingsWhole bytes) (settingsHold (settingsAt bytes 0)) refl e
+start-facts bytes e = go (settingsWhole bytes) (settingsHold (settingsIn bytes)) refl e
   where
-    go : (w b : Bool) → settingsHold (settingsAt bytes 0) ≡ b
-        → cond w (cond b (taken (started (settingsAt bytes 0))) (refuse 2 blankTrainer)) (refuse 2 blankTrainer) .refused ≡ 0
-        → (settingsHold (settingsAt bytes 0) ≡ true)
-        × (cond w (cond b (taken (started (settingsAt bytes 0))) (refuse 2 blankTrainer)) (refuse 2 blankTrainer) ≡ taken (started (settingsAt bytes 0)))
+    go : (w b : Bool) → settingsHold (settingsIn bytes) ≡ b
+        → cond w (cond b (taken (started (settingsIn bytes))) (refuse 2 blankTrainer)) (refuse 2 blankTrainer) .refused ≡ 0
+        → (settingsHold (settingsIn bytes) ≡ true)
+        × (cond w (cond b (taken (started (settingsIn bytes))) (refuse 2 blankTrainer)) (refuse 2 blankTrainer) ≡ taken (started (settingsIn bytes)))
     go true true p q = (p, refl)
     go true false p q = absurd (omega arith)
     go false b p q = absurd (omega arith)
@@ -218,7 +218,7 @@ start-holds settings out n bytes e =
     let s = start-facts settings (written-facts (startIn settings) out n e .0) in
     let f : TrainerFits (startIn settings .trainer) =
     subst (λ (z : Answered). TrainerFits (z .trainer)) (sym (s .1))
-    (started-fits (settingsAt settings 0) (settings-fits settings 0 bytes) (start-held (settingsAt settings 0) (s .0) .accepted)) in
+    (started-fits (settingsIn settings) (settings-fits (layoutOf version) settings 0 bytes) (start-held (settingsIn settings) (s .0) .accepted)) in
     record {
       loads = written-loads (startIn settings) out n f e ∙ s .1 ∙ ap (λ (z : Answered). taken (z .trainer)) (sym (s .1));
       fits = f;
@@ -228,19 +228,19 @@ start-of : (s : Settings) → settingsHold s ≡ true → startOf s ≡ taken (s
 unfolding startOf
 start-of s h = rw h
 
-start-same : (settings out : List ℕ) (n : ℕ) → writtenOf (startIn settings) out ≡ Size n → startIn settings .trainer ≡ startOf (settingsAt settings 0) .trainer
+start-same : (settings out : List ℕ) (n : ℕ) → writtenOf (startIn settings) out ≡ Size n → startIn settings .trainer ≡ startOf (settingsIn settings) .trainer
 start-same settings out n e =
     let s = start-facts settings (written-facts (startIn settings) out n e .0) in
-    ap (λ (z : Answered). z .trainer) (s .1 ∙ sym (start-of (settingsAt settings 0) (s .0)))
+    ap (λ (z : Answered). z .trainer) (s .1 ∙ sym (start-of (settingsIn settings) (s .0)))
 
 -- a host that started from bytes and a program that started from the same settings see the same question first, and the same of every list of answers
 pub host-same : (settings out asks : List ℕ) (n : ℕ) (cs : List Call) → Bytes settings → writtenOf (startIn settings) out ≡ Size n
     → let held = take n (recordAfter (startIn settings) out) in
-    let t = startOf (settingsAt settings 0) .trainer in
+    let t = startOf (settingsIn settings) .trainer in
     ((askedIn held asks ≡ fitted (questionOf t) asks) × (askedAfter held asks ≡ questionPut (questionOf t) asks (fitted (questionOf t) asks)))
     × (hostRun held cs ≡ valueRun t cs)
 host-same settings out asks n cs bytes e =
     let held = take n (recordAfter (startIn settings) out) in
     let h = subst (Holds held) (start-same settings out n e) (start-holds settings out n bytes e) in
-    let t = startOf (settingsAt settings 0) .trainer in
+    let t = startOf (settingsIn settings) .trainer in
     (question-same held t asks (h .loads), run-same held t cs h)

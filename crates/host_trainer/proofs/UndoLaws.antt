@@ -10,6 +10,8 @@ use borrow.Author.Tests.{ltb-true}
 use lib.Dec.{eqb, ltb, leb}
 use lib.ListN.{length}
 use Rattle.refusal.specs.Guards.{test, guarded}
+use Rattle.remy.specs.declared.point.Point.{Point}
+use Rattle.remy.specs.Cube.{pointEqual}
 use Rattle.rule_tree.specs.declared.Node.{Node}
 use Rattle.rule_tree.specs.declared.RuleTree.{RuleTree}
 use Rattle.rule_tree.specs.Nodes.{nodeAt, nodeCount}
@@ -17,15 +19,16 @@ use Rattle.rule_tree.specs.Grown.{grownOf}
 use Rattle.rule_tree.specs.Change.{undone}
 use Rattle.rule_tree.specs.Calls.{leafIn}
 use Rattle.rule_tree.proofs.GrownTree.{leaf-childless, leaf-from}
-use Rattle.rule_tree.proofs.Plain.{and-l, and-r}
-use Rattle.rule_tree.proofs.Undoing.{newest-children, undo-other, undo-splits, undo-grown}
+use Rattle.rule_tree.proofs.Undoing.{newest-children, undo-other, undo-splits, undo-ends, undo-grown}
 use Rattle.rule_tree_laws.proofs.Undone.{undo-fits}
 use Rattle.trainer.specs.declared.Trainer.{Trainer}
 use Rattle.trainer.specs.declared.Answered.{Answered}
 use Rattle.trainer.specs.Settings.{settingsHold}
 use Rattle.trainer.specs.Candidates.{candidatesOf}
-use Rattle.trainer.specs.State.{splitting, tuning, ending, idle, untried, keptHolds, leafHolds, tryHolds, phaseHolds, acceptedOf}
+use Rattle.trainer.specs.State.{splitting, tuning, ending, idle, untried, keptHolds, leafHolds, tryHolds, boxHolds, phaseHolds, acceptedOf}
 use Rattle.trainer.specs.Phases.{taken}
+use Rattle.trainer.proofs.AcceptWays.{phase-is, accepted-all}
+use Rattle.trainer.proofs.AcceptedFacts.{accepted-settings, accepted-box, accepted-phase}
 use Rattle.record.specs.declared.Saved.the-variants.{Size, Refused}
 use Rattle.record.specs.Write.{recordOf}
 use Rattle.record.specs.Calls.{saveOf, loadOf}
@@ -79,10 +82,6 @@ still-held t x y true b p q e = ap (λ (z : Node). heldWith t b z) (q refl) ∙ 
 still-held t x y false b p q e = none-held t x y b e
 
 -- ---- the trainer that is left
-both : (x y : Bool) → x ≡ true → y ≡ true → (x && y) ≡ true
-both true y p q = q
-both false y p q = p
-
 abbrev left : Trainer → Trainer
 left t = withTree t (undone (t .tree))
 
@@ -111,15 +110,22 @@ module _ (t : Trainer) (f : TrainerFits t) (a : acceptedOf t ≡ true) (s : 0 < 
       leaf-from (undone (t .tree)) (t .leaf) (omega (arith, before, undo-splits (t .tree)))
       (ap (λ (x : Node). x .children) (leaf-same l) ∙ leaf-childless (t .tree) (t .leaf) l)
 
-  pub undone-accepted : acceptedOf (left t) ≡ true
-  unfolding acceptedOf
-  undone-accepted =
-      let h = and-r (settingsHold (t .settings)) (grownOf (t .tree) && phaseHolds t) a in
-      both (settingsHold (t .settings)) (grownOf (undone (t .tree)) && phaseHolds (left t)) (and-l (settingsHold (t .settings)) (grownOf (t .tree) && phaseHolds t) a)
-      (both (grownOf (undone (t .tree))) (phaseHolds (left t)) (undo-grown (t .tree) full g s)
-      (held-is t (undone (t .tree))
+  box-stays : boxHolds (left t) ≡ true
+  unfolding boxHolds
+  box-stays = ap (λ (e : Point). pointEqual e (t .settings .ends)) (undo-ends (t .tree)) ∙ accepted-box t a
+
+  phase-stays : phaseHolds (left t) ≡ true
+  phase-stays =
+      held-is t (undone (t .tree))
       ∙ still-held t (nodeAt (t .tree .nodes) (t .leaf)) (nodeAt (undone (t .tree) .nodes) (t .leaf)) (leafIn (t .tree) (t .leaf)) (leafIn (undone (t .tree)) (t .leaf))
-      leaf-stays leaf-same (sym (held-is t (t .tree)) ∙ and-r (grownOf (t .tree)) (phaseHolds t) h)))
+      leaf-stays leaf-same (sym (held-is t (t .tree)) ∙ phase-is t ∙ accepted-phase t a)
+
+  pub undone-accepted : acceptedOf (left t) ≡ true
+  undone-accepted =
+      sym
+      (accepted-all (left t) (settingsHold (t .settings)) (grownOf (undone (t .tree))) (boxHolds (left t)) (phaseHolds (left t)) refl (accepted-settings t a)
+      refl (undo-grown (t .tree) full g s) refl box-stays refl)
+      ∙ phase-stays
 
   undone-fits : TrainerFits (left t)
   undone-fits =

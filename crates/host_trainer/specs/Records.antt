@@ -9,21 +9,28 @@ use Rattle.refusal.specs.Numbers.{badSettings}
 use Rattle.rule_tree.specs.Lists.{tabulate}
 use Rattle.trainer.specs.declared.Trainer.{Trainer}
 use Rattle.trainer.specs.declared.Answered.{Answered}
+use Rattle.trainer.specs.declared.settings.Settings.{Settings}
 use Rattle.trainer.specs.Phases.{refuse}
 use Rattle.trainer.specs.Calls.{blankTrainer, startOf, answerCountsOf, answerScoreOf}
 use Rattle.record.specs.declared.Saved.{Saved}
 use Rattle.record.specs.declared.Saved.the-variants.{Size, Refused}
 use Rattle.wire.specs.Bytes.{numberAt}
+use Rattle.record.specs.Layout.{layoutOf}
+use Rattle.record.specs.Write.{version}
 use Rattle.record.specs.Read.{settingsAt}
 use Rattle.record.specs.Calls.{saveOf, bufferAfter, loadOf}
 
--- the 113 bytes of settings as the record has them; other lengths, and a drill byte that is neither 0 nor 1, are refused as settings are
+-- the 137 bytes of settings as the record has them; other lengths, and a drill byte that is neither 0 nor 1, are refused as settings are
 unfoldable pub settingsWhole : List ℕ → Bool
-settingsWhole bytes = eqb (length bytes) 113 && leb (getD bytes 12 0) 1
+settingsWhole bytes = eqb (length bytes) 137 && leb (getD bytes 12 0) 1
+
+-- the settings that they are: "these as 24 bytes after the five actions (ack, send, ratio)"
+abbrev pub settingsIn : List ℕ → Settings
+settingsIn bytes = settingsAt (layoutOf version) bytes 0
 
 unfoldable pub startIn : List ℕ → Answered
 unfolding settingsWhole
-startIn bytes = cond (settingsWhole bytes) (startOf (settingsAt bytes 0)) (refuse badSettings blankTrainer)
+startIn bytes = cond (settingsWhole bytes) (startOf (settingsIn bytes)) (refuse badSettings blankTrainer)
 
 -- what is done to the trainer of a record: 6, 7, 8, then the call's own refusals
 unfoldable pub onTrainer : Answered → (Trainer → Answered) → Answered

@@ -30,7 +30,8 @@ fn score(found: &[Option<Action>], points: &[Point]) -> f64 {
 fn main() -> Result<(), Box<dyn std::error::Error>> {
     let file = std::env::args_os().nth(1).map_or_else(|| std::env::temp_dir().join("lamp.record"), Into::into);
     let points = memories();
-    let settings = Settings { rule_splits: 2, rounds: 1, drill: false, ..Settings::default() };
+    let settings =
+        Settings { rule_splits: 2, optimization_rounds_per_split: 1, drill_down: false, ..Settings::default() };
     let mut trainer = Trainer::start(&settings)?;
     let (mut told, mut counts, mut scores) = (-1.0, 0, 0);
     loop {

@@ -9,7 +9,7 @@
 //! use knellstone::{Question, Settings, Trainer};
 //! let trainer = Trainer::start(&Settings::default()).unwrap();
 //! assert!(matches!(trainer.question(), Question::Counts { .. }));
-//! assert_eq!(trainer.record().len(), 172);
+//! assert_eq!(trainer.record().len(), 196);
 //! assert_eq!(trainer.panel(&[5]).unwrap(), "leaves 1 splits 0\n0 1000\n");
 //! ```
 
@@ -95,47 +95,55 @@ impl Point {
     }
 }
 
-/// How a trainer searches.
+/// How a trainer searches, and in which box.
 #[derive(Clone, Copy, Debug, PartialEq)]
 pub struct Settings {
     pub rule_splits: u32,
-    pub rounds: u32,
-    pub multiplier: u32,
-    pub drill: bool,
-    pub min: Action,
-    pub max: Action,
-    pub initial_change: Action,
-    pub max_change: Action,
-    pub default: Action,
+    pub optimization_rounds_per_split: u32,
+    pub action_change_multiplier: u32,
+    pub drill_down: bool,
+    pub min_action: Action,
+    pub max_action: Action,
+    pub initial_action_change: Action,
+    pub max_action_change: Action,
+    pub default_action: Action,
+    /// The upper ends of the root box, ack, send and ratio, each from 1 to 1,000,000; its lower ends are 0.
+    pub ends: [f64; 3],
 }
 
 impl Default for Settings {
-    /// Those of FlowForge's `RemyTrainer::default`.
+    /// Those of FlowForge's `RemyTrainer::default`, in the box that its trees have.
     fn default() -> Self {
         let action = |multiplier, increment, milliseconds: f64| Action::new(multiplier, increment, milliseconds / 1000.0);
         Settings {
             rule_splits: 12,
-            rounds: 2,
-            multiplier: 4,
-            drill: true,
-            min: action(0.0, 0, 0.25),
-            max: action(1.0, 256, 3.0),
-            initial_change: action(0.01, 1, 0.05),
-            max_change: action(0.5, 32, 1.0),
-            default: action(1.0, 1, 3.0),
+            optimization_rounds_per_split: 2,
+            action_change_multiplier: 4,
+            drill_down: true,
+            min_action: action(0.0, 0, 0.25),
+            max_action: action(1.0, 256, 3.0),
+            initial_action_change: action(0.01, 1, 0.05),
+            max_action_change: action(0.5, 32, 1.0),
+            default_action: action(1.0, 1, 3.0),
+            ends: [600.0, 600.0, 1000.0],
         }
     }
 }
 
 impl Settings {
-    pub fn to_bytes(&self) -> [u8; 113] {
-        let mut b = [0; 113];
+    pub fn to_bytes(&self) -> [u8; 137] {
+        let mut b = [0; 137];
         b[..4].copy_from_slice(&self.rule_splits.to_be_bytes());
-        b[4..8].copy_from_slice(&self.rounds.to_be_bytes());
-        b[8..12].copy_from_slice(&self.multiplier.to_be_bytes());
-        b[12] = self.drill.into();
-        for (i, a) in [self.min, self.max, self.initial_change, self.max_change, self.default].into_iter().enumerate() {
+        b[4..8].copy_from_slice(&self.optimization_rounds_per_split.to_be_bytes());
+        b[8..12].copy_from_slice(&self.action_change_multiplier.to_be_bytes());
+        b[12] = self.drill_down.into();
+        let (least, most) = (self.min_action, self.max_action);
+        let actions = [least, most, self.initial_action_change, self.max_action_change, self.default_action];
+        for (i, a) in actions.into_iter().enumerate() {
             b[13 + 20 * i..33 + 20 * i].copy_from_slice(&a.to_bytes());
+        }
+        for (i, x) in self.ends.into_iter().enumerate() {
+            b[113 + 8 * i..121 + 8 * i].copy_from_slice(&x.to_bits().to_be_bytes());
         }
         b
     }
@@ -171,7 +179,7 @@ pub struct Trainer {
     record: Vec<u8>,
 }
 
-const RECORD_MOST: usize = 11_052;
+const RECORD_MOST: usize = 11_076;
 const CANDIDATES_MOST: usize = 4096;
 const GROUP_MOST: usize = 65535;
 
@@ -185,7 +193,7 @@ impl Trainer {
         written(RECORD_MOST, |out| raw::start(settings, out)).map(|record| Trainer { record })
     }
 
-    /// The trainer whose record these bytes are; one of version 1 is kept as version 2.
+    /// The trainer whose record these bytes are; one of version 1 or 2 is kept as version 3, with the usual upper ends.
     pub fn load(record: &[u8]) -> Result<Self, Refusal> {
         written(RECORD_MOST, |out| raw::answers(record, &[], out)).map(|record| Trainer { record })
     }
@@ -262,7 +270,7 @@ impl Trainer {
 
     /// The candidates of an action by its own settings.
     pub fn candidates(&self, action: Action) -> Result<Vec<Action>, Refusal> {
-        candidates(&self.record[5..118], action)
+        candidates(&self.record[5..142], action)
     }
 
     /// Whether the two trees are equal: the same boxes, with the same actions in their leaves.
@@ -288,7 +296,7 @@ impl Trainer {
 
     /// How many nodes its tree has.
     pub fn nodes(&self) -> usize {
-        1 + 8 * usize::from(u16::from_be_bytes([self.record[118], self.record[119]]))
+        1 + 8 * usize::from(u16::from_be_bytes([self.record[142], self.record[143]]))
     }
 
     /// How many of the points each node's leaf holds, 0 for parents: what a question for counts wants.

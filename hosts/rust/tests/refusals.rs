@@ -9,7 +9,8 @@ fn fresh() -> Trainer {
 #[test]
 fn settings() {
     let bytes = Settings::default().to_bytes();
-    assert_eq!(Trainer::start_from(&bytes[..112]), Err(Refusal(2)));
+    assert_eq!(Trainer::start_from(&bytes[..113]), Err(Refusal(2)), "the upper ends are left out");
+    assert_eq!(Trainer::start_from(&bytes[..136]), Err(Refusal(2)));
     assert_eq!(Trainer::start_from(&[]), Err(Refusal(2)));
     let mut drill = bytes;
     drill[12] = 2;
@@ -55,8 +56,8 @@ fn answers_in_a_row() {
 
     let settings = Settings::default();
     let row = trainer.asked();
-    assert_eq!(row[0], settings.default);
-    assert_eq!(row[1..], settings.candidates(settings.default).unwrap());
+    assert_eq!(row[0], settings.default_action);
+    assert_eq!(row[1..], settings.candidates(settings.default_action).unwrap());
     assert_eq!(row.len(), 37);
     let mut one_by_one = trainer.clone();
     for i in 0..row.len() {
@@ -89,7 +90,7 @@ fn candidates() {
 fn equality() {
     let trainer = fresh();
     assert!(trainer.same_tree(&trainer));
-    let other = Settings { default: Action::new(0.5, 7, 0.001), ..Settings::default() };
+    let other = Settings { default_action: Action::new(0.5, 7, 0.001), ..Settings::default() };
     assert!(!trainer.same_tree(&Trainer::start(&other).unwrap()));
     let mut counted = trainer.clone();
     counted.answer_counts(&[5]).unwrap();
@@ -101,21 +102,22 @@ fn equality() {
 fn records() {
     let trainer = fresh();
     assert_eq!(Trainer::load(&[]), Err(Refusal(6)));
-    assert_eq!(Trainer::load(&trainer.record()[..171]), Err(Refusal(6)));
+    assert_eq!(Trainer::load(&trainer.record()[..195]), Err(Refusal(6)));
     let mut version = trainer.record().to_vec();
-    version[4] = 3;
+    version[4] = 4;
     assert_eq!(Trainer::load(&version), Err(Refusal(7)));
-    version[4] = 1;
-    assert_eq!(Trainer::load(&version).as_ref(), Ok(&trainer), "a fresh record of version 1 is kept as version 2");
+    version[4] = 2;
+    assert_eq!(Trainer::load(&version), Err(Refusal(8)), "a version 2 record has no ends");
     let mut phase = trainer.record().to_vec();
-    phase[141] = 9;
+    phase[165] = 9;
     assert_eq!(Trainer::load(&phase), Err(Refusal(8)));
     assert_eq!(Trainer::load(trainer.record()), Ok(trainer));
 }
 
 #[test]
 fn splits_taken_back() {
-    let settings = Settings { rule_splits: 2, rounds: 0, drill: false, ..Settings::default() };
+    let settings =
+        Settings { rule_splits: 2, optimization_rounds_per_split: 0, drill_down: false, ..Settings::default() };
     let mut trainer = Trainer::start(&settings).unwrap();
     let fresh = trainer.clone();
     assert_eq!(trainer.undo_split(), Err(Refusal(24)));
@@ -135,7 +137,13 @@ fn splits_taken_back() {
 #[test]
 fn the_leaf_that_is_asked_for_stays() {
     let none = Action::new(0.0, 0, 0.0);
-    let settings = Settings { rule_splits: 1, rounds: 1, drill: false, max_change: none, ..Settings::default() };
+    let settings = Settings {
+        rule_splits: 1,
+        optimization_rounds_per_split: 1,
+        drill_down: false,
+        max_action_change: none,
+        ..Settings::default()
+    };
     let mut trainer = Trainer::start(&settings).unwrap();
     trainer.answer(&[Answer::Counts(vec![5]), Answer::Scores(vec![1.0])]).unwrap();
     trainer.answer(&[Answer::Counts(vec![5]), Answer::Counts(vec![5])]).unwrap();
@@ -143,7 +151,7 @@ fn the_leaf_that_is_asked_for_stays() {
     let mut undone = trainer.clone();
     undone.undo_split().unwrap();
     // The root was marked when it was tuned, its marks were cleared, and it kept none when it was split.
-    assert_eq!(undone.record()[140], 0);
+    assert_eq!(undone.record()[164], 0);
     trainer.answer_counts(&[0, 0, 0, 5, 0, 0, 0, 0, 0]).unwrap();
     assert!(matches!(trainer.question(), Question::Score { leaf: 3, .. }));
     let asking = trainer.clone();
@@ -156,7 +164,7 @@ fn lookups() {
     let trainer = fresh();
     let inside = Point { ack_ewma: 1.0, send_ewma: 1.0, rtt_ratio: 1.0 };
     let outside = Point { rtt_ratio: 1000.0, ..inside };
-    let usual = Settings::default().default;
+    let usual = Settings::default().default_action;
     assert_eq!(trainer.lookup(&[inside, outside, Point { ack_ewma: f64::NAN, ..inside }]), [Some(usual), None, None]);
     assert_eq!(trainer.lookup(&[]), []);
     let other = Action::new(0.5, 7, 0.25);

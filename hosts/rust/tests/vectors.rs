@@ -92,11 +92,11 @@ enum Gives {
 /// Each node of a record's tree, without its cube.
 fn nodes(record: &[u8]) -> Vec<String> {
     let short = |at: usize| usize::from(u16::from_be_bytes([record[at], record[at + 1]]));
-    let splits = short(118);
+    let splits = short(142);
     let node = |i: usize| {
-        let at = 120 + 2 * splits + 21 * i;
+        let at = 144 + 2 * splits + 21 * i;
         let action = Action::from_bytes(record[at..at + 20].try_into().unwrap());
-        let kind = match (0..splits).find(|k| short(120 + 2 * k) == i) {
+        let kind = match (0..splits).find(|k| short(144 + 2 * k) == i) {
             Some(k) => format!("parent {}", 8 * k + 1),
             None => "leaf".into(),
         };
@@ -227,7 +227,7 @@ impl Lines<'_> {
 
 fn replay(bytes: &[u8], lines: &mut Lines) {
     let mut script = Script { bytes, at: 0 };
-    let (Ok(settings), Ok(mode)) = (script.take(113), script.take(9)) else {
+    let (Ok(settings), Ok(mode)) = (script.take(137), script.take(9)) else {
         return lines.expect("bad script");
     };
     let mut trainer = match Trainer::start_from(settings) {

@@ -8,8 +8,8 @@ use Rattle.host_lists.proofs.candidates.Tie as tie
 byte-at-requires : tie.Need-byte-at-requires
 byte-at-requires c κs = search needs
 
-settings-at-requires : tie.Need-settings-at-requires
-settings-at-requires c κs = search needs
+settings-in-requires : tie.Need-settings-in-requires
+settings-in-requires c κs = search needs
 
 hold-requires : tie.Need-hold-requires
 hold-requires c κs = search needs
@@ -22,12 +22,12 @@ same-length c = search needs
 
 returns : tie.Need-returns
 returns c =
-    law.candidates-taken (c .before .before .before .before .before .before .before .before .before .before .before .before .before .args .settings .now) (c .before .before .before .before .before .before .before .before .before .before .before .before .before .args .action .now) (c .before .before .before .before .before .before .before .before .before .before .before .before .before .args .out .now) (c .before .before .before .before .before .before .before .before .before .if1 .taken) (c .before .before .before .before .before .before .before .before .byte-at .ensures) (c .before .before .before .before .before .before .before .if2 .taken) (c .before .before .before .before .before .before .settings-at .ensures)
+    law.candidates-taken (c .before .before .before .before .before .before .before .before .before .before .before .before .before .args .settings .now) (c .before .before .before .before .before .before .before .before .before .before .before .before .before .args .action .now) (c .before .before .before .before .before .before .before .before .before .before .before .before .before .args .out .now) (c .before .before .before .before .before .before .before .before .before .if1 .taken) (c .before .before .before .before .before .before .before .before .byte-at .ensures) (c .before .before .before .before .before .before .before .if2 .taken) (c .before .before .before .before .before .before .settings-in .ensures)
     (was-true (c .before .before .before .before .before .hold .ensures) (c .before .before .before .before .if3 .taken)) (c .before .before .candidates-with .ensures)
 
 returns-2 : tie.Need-returns-2
 returns-2 c =
-    law.candidates-bad (c .before .before .before .before .before .before .before .before .before .args .settings .now) (c .before .before .before .before .before .before .before .before .before .args .action .now) (c .before .before .before .before .before .before .before .before .before .args .out .now) (c .before .before .before .before .before .if1 .taken) (c .before .before .before .before .byte-at .ensures) (c .before .before .before .if2 .taken) (c .before .before .settings-at .ensures)
+    law.candidates-bad (c .before .before .before .before .before .before .before .before .before .args .settings .now) (c .before .before .before .before .before .before .before .before .before .args .action .now) (c .before .before .before .before .before .before .before .before .before .args .out .now) (c .before .before .before .before .before .if1 .taken) (c .before .before .before .before .byte-at .ensures) (c .before .before .before .if2 .taken) (c .before .before .settings-in .ensures)
     (was-false (c .before .hold .ensures) (c .if3 .left))
 
 returns-3 : tie.Need-returns-3
@@ -41,7 +41,7 @@ candidates-spec =
     tie.close
     (tie.spec
     byte-at-requires
-    settings-at-requires
+    settings-in-requires
     hold-requires
     candidates-with-requires
     same-length

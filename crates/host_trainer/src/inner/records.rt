@@ -4,12 +4,14 @@ ghost use Prim.Native.Nat.{_*_, _≤_};
 ghost use lib.ListN.{take};
 ghost use Rattle.rule_tree.specs.Lists.{tabulate};
 ghost use Rattle.wire.specs.Bytes.{numberAt};
-ghost use Rattle.host_trainer.specs.Records.{startIn, scoreAnswered, countsAnswered, writtenOf, recordAfter};
+ghost use Rattle.host_trainer.specs.Records.{settingsIn, startIn, scoreAnswered, countsAnswered, writtenOf, recordAfter};
 ghost use Rattle.host_trainer.specs.Parts.{countOf};
 use record::Saved;
 use record::inner::body;
+use record::inner::layout;
 use trainer::Answered;
 use trainer::Trainer;
+use trainer::settings::Settings;
 use wire::inner::read;
 
 // The record of the trainer after a call; of a refused call nothing.
@@ -24,12 +26,20 @@ pub fn written(a: Answered, out: &mut [u8]) -> Saved
     Saved::Refused(refused)
 }
 
+// The settings as a record of version 3 has them, the upper ends last.
+pub fn settings_in(bytes: &[u8]) -> Settings
+    ensures { λ r. ⌜ r ≡ settingsIn (now (bytes .entry)) ⌝ }
+{
+    let l = layout::of_version(3);
+    record::inner::read::settings_at(bytes, l, 0)
+}
+
 pub fn started(settings: &[u8]) -> Answered
     ensures { λ r. ⌜ r ≡ startIn (now (settings .entry)) ⌝ }
 {
-    if settings.len() == 113 {
+    if settings.len() == 137 {
         if read::byte_at(settings, 12) <= 1 {
-            let s = record::inner::read::settings_at(settings, 0);
+            let s = settings_in(settings);
             return Trainer::start(s);
         }
     }

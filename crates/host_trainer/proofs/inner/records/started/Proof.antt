@@ -9,14 +9,14 @@ use Rattle.host_trainer.proofs.inner.records.started.Tie as tie
 byte-at-requires : tie.Need-byte-at-requires
 byte-at-requires c κs = search needs
 
-settings-at-requires : tie.Need-settings-at-requires
-settings-at-requires c κs = search needs
+settings-in-requires : tie.Need-settings-in-requires
+settings-in-requires c κs = search needs
 
 start-requires : tie.Need-start-requires
 start-requires c κs = search needs
 
 returns : tie.Need-returns
-returns c = law.start-taken (c .before .before .before .before .before .before .args .settings .now) (c .before .before .before .before .if1 .taken) (c .before .before .before .byte-at .ensures) (omega (arith, c .before .before .if2 .taken)) (c .before .settings-at .ensures) (c .start .ensures)
+returns c = law.start-taken (c .before .before .before .before .before .before .args .settings .now) (c .before .before .before .before .if1 .taken) (c .before .before .before .byte-at .ensures) (omega (arith, c .before .before .if2 .taken)) (c .before .settings-in .ensures) (c .start .ensures)
 
 refused-requires : tie.Need-refused-requires
 refused-requires c κs = search needs
@@ -32,7 +32,7 @@ started-spec =
     tie.close
     (tie.spec
     byte-at-requires
-    settings-at-requires
+    settings-in-requires
     start-requires
     returns
     refused-requires
