@@ -32,6 +32,8 @@ pub enum Call {
     Load(Vec<u8>),
     Equal(Vec<u8>),
     UndoSplit,
+    /// The settings and their drill byte.
+    ChangeSettings(Settings, u8),
 }
 
 #[derive(Debug)]
@@ -84,7 +86,7 @@ impl<'a> Reader<'a> {
         Ok([self.f64()?, self.f64()?, self.f64()?])
     }
 
-    pub fn header(&mut self) -> Result<Header, BadScript> {
+    fn settings(&mut self) -> Result<(Settings, u8), BadScript> {
         let (rule_splits, rounds, multiplier) = (self.u32()?, self.u32()?, self.u32()?);
         let drill = self.u8()?;
         let settings = Settings {
@@ -99,6 +101,11 @@ impl<'a> Reader<'a> {
             default: self.action()?,
             ends: self.point()?,
         };
+        Ok((settings, drill))
+    }
+
+    pub fn header(&mut self) -> Result<Header, BadScript> {
+        let (settings, drill) = self.settings()?;
         Ok(Header { settings, drill, mode: self.u8()?, lo: self.u32()?, hi: self.u32()? })
     }
 
@@ -142,6 +149,10 @@ impl<'a> Reader<'a> {
             12 => Call::PrintTree,
             13 => Call::Load(self.record()?),
             14 => Call::Equal(self.record()?),
+            15 => {
+                let (settings, drill) = self.settings()?;
+                Call::ChangeSettings(settings, drill)
+            }
             17 => Call::UndoSplit,
             _ => return Err(BadScript),
         }))
@@ -155,19 +166,22 @@ pub struct Writer {
 impl Writer {
     pub fn new(header: &Header) -> Writer {
         let mut writer = Writer { bytes: Vec::new() };
-        let s = &header.settings;
-        for number in [s.rule_splits, s.rounds, s.multiplier] {
-            writer.bytes.extend(number.to_be_bytes());
-        }
-        writer.bytes.push(header.drill);
-        for action in [&s.min, &s.max, &s.initial_change, &s.max_change, &s.default] {
-            writer.action(action);
-        }
-        writer.point(&s.ends);
+        writer.settings(&header.settings, header.drill);
         writer.bytes.push(header.mode);
         writer.bytes.extend(header.lo.to_be_bytes());
         writer.bytes.extend(header.hi.to_be_bytes());
         writer
+    }
+
+    fn settings(&mut self, s: &Settings, drill: u8) {
+        for number in [s.rule_splits, s.rounds, s.multiplier] {
+            self.bytes.extend(number.to_be_bytes());
+        }
+        self.bytes.push(drill);
+        for action in [&s.min, &s.max, &s.initial_change, &s.max_change, &s.default] {
+            self.action(action);
+        }
+        self.point(&s.ends);
     }
 
     fn f64(&mut self, x: f64) {
@@ -253,6 +267,10 @@ impl Writer {
                 self.record(record);
             }
             Call::UndoSplit => self.bytes.push(17),
+            Call::ChangeSettings(settings, drill) => {
+                self.bytes.push(15);
+                self.settings(settings, *drill);
+            }
         }
     }
 }
