@@ -76,6 +76,13 @@ uint64_t knellstone_equal(const uint8_t *a, size_t a_len, const uint8_t *b, size
  * whose score is asked for is one of those that go, 9 */
 uint64_t knellstone_undo_split(const uint8_t *record, size_t record_len, uint8_t *next, size_t next_len);
 
+/* Gives the record's trainer new settings with the same upper ends, and writes the record of the trainer that is left:
+ * its tree, stage and round stay; where a score is asked for, the candidates are dropped and the leaf's own action is
+ * asked for again. 6, 7, 8, 2, 27 where an upper end differs, the stage is above the new rule_splits, only counts are
+ * left to give or training is done, or the round is not below the new rounds while leaves are tuned, 9 */
+uint64_t knellstone_change_settings(const uint8_t *record, size_t record_len, const uint8_t *settings,
+                                    size_t settings_len, uint8_t *next, size_t next_len);
+
 /* Looks many points up in the record's tree: KNELLSTONE_FOUND bytes each. 6, 7, 8, 6, 9 */
 uint64_t knellstone_lookup(const uint8_t *record, size_t record_len, const uint8_t *points, size_t points_len,
                            uint8_t *out, size_t out_len);

@@ -29,6 +29,7 @@ fn name(call: &Call) -> &'static str {
         Call::Apply(..) => "apply",
         Call::EvenRow(_) => "row",
         Call::NextList(..) => "list",
+        Call::ChangeSettings(..) => "change",
     }
 }
 

@@ -29,7 +29,7 @@ pub struct Played {
 /// Why the calls stopped being made.
 enum Left {
     End,
-    /// A record was loaded; whether answers are known that lead `train` to its state.
+    /// A record was loaded, or settings were changed; whether answers are known that lead `train` to its state.
     Loaded {
         known: bool,
     },
@@ -265,7 +265,10 @@ impl Player {
         let Some(call) = self.calls.next() else {
             return Went::Left(Left::End);
         };
-        let asks_again = matches!(call, Call::Counts(_) | Call::Score(_) | Call::Reload(_) | Call::Load(_));
+        let asks_again = matches!(
+            call,
+            Call::Counts(_) | Call::Score(_) | Call::Reload(_) | Call::Load(_) | Call::ChangeSettings(..)
+        );
         let shows_sender = matches!(call, Call::Ack(_) | Call::Send(_) | Call::Tick);
         let went = self.make(call);
         if self.tally.len() != self.trainer.tree.nodes.len() {
@@ -293,6 +296,11 @@ impl Player {
             Call::Score(score) => return self.answer(Answer::Score(score)),
             Call::Reload(length) => self.reload(length)?,
             Call::Load(record) => return self.load(&record),
+            Call::ChangeSettings(settings, drill) => {
+                let trainer = self.trainer.change(&settings, drill)?;
+                self.line("ok");
+                return Ok(self.moved(trainer));
+            }
             other => {
                 let line = self.read_or_send(other).unwrap_or_else(|number| format!("refused {number}"));
                 self.line(&line);
@@ -325,9 +333,14 @@ impl Player {
     fn load(&mut self, record: &[u8]) -> Result<Went, Refused> {
         let trainer = Trainer::load(record)?;
         self.line("loaded");
+        Ok(self.moved(trainer))
+    }
+
+    /// The trainer is another than the answers led to: that of a record, or one with new settings.
+    fn moved(&mut self, trainer: Trainer) -> Went {
         let again = trainer.record();
         if self.followed && again == self.trainer.record() {
-            return Ok(Went::On);
+            return Went::On;
         }
         self.originals.load(&trainer);
         same_tree("a loaded tree", &self.originals.tree.borrow(), &trainer.tree);
@@ -343,7 +356,7 @@ impl Player {
         self.trainer = trainer;
         self.followed = answers.is_some();
         self.answers = answers.unwrap_or_default();
-        Ok(Went::Left(Left::Loaded { known: self.followed }))
+        Went::Left(Left::Loaded { known: self.followed })
     }
 
     /// The calls that leave the trainer as it is.
@@ -436,7 +449,9 @@ impl Player {
                 let equal = agreed("equality", Ok(original), Ok(tree.equal(&other.tree)))?;
                 format!("equal {}", u8::from(equal))
             }
-            Call::Counts(_) | Call::Score(_) | Call::Reload(_) | Call::Load(_) => unreachable!(),
+            Call::Counts(_) | Call::Score(_) | Call::Reload(_) | Call::Load(_) | Call::ChangeSettings(..) => {
+                unreachable!()
+            }
         })
     }
 

@@ -35,6 +35,8 @@ pub enum Call {
     Apply(Action, u32),
     EvenRow(Point),
     NextList(u8, Vec<u16>),
+    /// The settings and their drill byte.
+    ChangeSettings(Settings, u8),
 }
 
 #[derive(Debug)]
@@ -87,7 +89,7 @@ impl<'a> Reader<'a> {
         Ok([self.f64()?, self.f64()?, self.f64()?])
     }
 
-    pub fn header(&mut self) -> Result<Header, BadScript> {
+    fn settings(&mut self) -> Result<(Settings, u8), BadScript> {
         let (rule_splits, rounds, multiplier) = (self.u32()?, self.u32()?, self.u32()?);
         let drill = self.u8()?;
         let settings = Settings {
@@ -102,6 +104,11 @@ impl<'a> Reader<'a> {
             default: self.action()?,
             ends: self.point()?,
         };
+        Ok((settings, drill))
+    }
+
+    pub fn header(&mut self) -> Result<Header, BadScript> {
+        let (settings, drill) = self.settings()?;
         Ok(Header { settings, drill, mode: self.u8()?, lo: self.u32()?, hi: self.u32()? })
     }
 
@@ -145,6 +152,10 @@ impl<'a> Reader<'a> {
             12 => Call::PrintTree,
             13 => Call::Load(self.record()?),
             14 => Call::Equal(self.record()?),
+            15 => {
+                let (settings, drill) = self.settings()?;
+                Call::ChangeSettings(settings, drill)
+            }
             17 => Call::UndoSplit,
             22 => Call::Apply(self.action()?, self.u32()?),
             25 => Call::EvenRow(self.point()?),
@@ -164,19 +175,22 @@ pub struct Writer {
 impl Writer {
     pub fn new(header: &Header) -> Writer {
         let mut writer = Writer { bytes: Vec::new() };
-        let s = &header.settings;
-        for number in [s.rule_splits, s.rounds, s.multiplier] {
-            writer.bytes.extend(number.to_be_bytes());
-        }
-        writer.bytes.push(header.drill);
-        for action in [&s.min, &s.max, &s.initial_change, &s.max_change, &s.default] {
-            writer.action(action);
-        }
-        writer.point(&s.ends);
+        writer.settings(&header.settings, header.drill);
         writer.bytes.push(header.mode);
         writer.bytes.extend(header.lo.to_be_bytes());
         writer.bytes.extend(header.hi.to_be_bytes());
         writer
+    }
+
+    fn settings(&mut self, s: &Settings, drill: u8) {
+        for number in [s.rule_splits, s.rounds, s.multiplier] {
+            self.bytes.extend(number.to_be_bytes());
+        }
+        self.bytes.push(drill);
+        for action in [&s.min, &s.max, &s.initial_change, &s.max_change, &s.default] {
+            self.action(action);
+        }
+        self.point(&s.ends);
     }
 
     fn f64(&mut self, x: f64) {
@@ -276,6 +290,10 @@ impl Writer {
                 for node in list {
                     self.bytes.extend(node.to_be_bytes());
                 }
+            }
+            Call::ChangeSettings(settings, drill) => {
+                self.bytes.push(15);
+                self.settings(settings, *drill);
             }
         }
     }

@@ -7,6 +7,7 @@ ghost use Rattle.host_trainer.specs.Records.{startIn, scoreAnswered, countsAnsw
 ghost use Rattle.host_trainer.specs.Questions.{askedIn, askedAfter};
 ghost use Rattle.host_trainer.specs.Lookups.{lookups, lookupsAfter, replaced, replacedAfter};
 ghost use Rattle.host_trainer.specs.Undone.{undoneIn};
+ghost use Rattle.host_trainer.specs.Changed.{changedIn};
 ghost use Rattle.host_lists.specs.Lists.{candidatesIn, candidatesAfter, rowIn, rowAfter, equalIn};
 ghost use Rattle.host_trees.specs.Lists.{nextListIn, nextListAfter};
 ghost use Rattle.host_trees.specs.Rows.{evenRowIn};
@@ -67,6 +68,15 @@ pub extern "C" fn knellstone_undo_split(held: &[u8], out: &mut [u8]) -> u64
     ensures { λ r. ⌜ (r ≡ answerOf (writtenOf (undoneIn (now (held .entry))) (now (out .entry)))) × (now (out .exit) ≡ recordAfter (undoneIn (now (held .entry))) (now (out .entry))) ⌝ }
 {
     let s = host_trainer::undo_split(held, out);
+    answer(s)
+}
+
+// Gives the trainer of a record new settings, and writes the next record.
+#[no_mangle]
+pub extern "C" fn knellstone_change_settings(held: &[u8], settings: &[u8], out: &mut [u8]) -> u64
+    ensures { λ r. ⌜ (r ≡ answerOf (writtenOf (changedIn (now (held .entry)) (now (settings .entry))) (now (out .entry)))) × (now (out .exit) ≡ recordAfter (changedIn (now (held .entry)) (now (settings .entry))) (now (out .entry))) ⌝ }
+{
+    let s = host_trainer::change_settings(held, settings, out);
     answer(s)
 }
 

@@ -1,4 +1,5 @@
 pub mod RecordWays
+pub mod ChangeWays
 pub mod QuestionWays
 pub mod LookupWays
 pub mod SpotWays

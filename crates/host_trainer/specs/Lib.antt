@@ -4,3 +4,4 @@ pub mod Lookups
 pub mod Parts
 pub mod Runs
 pub mod Undone
+pub mod Changed

@@ -4,6 +4,8 @@ ghost use Rattle.host_trainer.specs.Records.{startIn, scoreAnswered, cou
 ghost use Rattle.host_trainer.specs.Questions.{askedIn, askedAfter};
 ghost use Rattle.host_trainer.specs.Lookups.{lookups, lookupsAfter, replaced, replacedAfter};
 ghost use Rattle.host_trainer.specs.Undone.{undoneIn};
+ghost use Rattle.host_trainer.specs.Changed.{changedIn};
+use crate::inner::change;
 use crate::inner::lookups;
 use crate::inner::questions;
 use crate::inner::records;
@@ -48,6 +50,14 @@ pub fn undo_split(held: &[u8], out: &mut [u8]) -> Saved
     ensures { λ r. ⌜ (r ≡ writtenOf (undoneIn (now (held .entry))) (now (out .entry))) × (now (out .exit) ≡ recordAfter (undoneIn (now (held .entry))) (now (out .entry))) ⌝ }
 {
     let a = undo::undone(held);
+    records::written(a, out)
+}
+
+// The record with new settings, as the record has them.
+pub fn change_settings(held: &[u8], settings: &[u8], out: &mut [u8]) -> Saved
+    ensures { λ r. ⌜ (r ≡ writtenOf (changedIn (now (held .entry)) (now (settings .entry))) (now (out .entry))) × (now (out .exit) ≡ recordAfter (changedIn (now (held .entry)) (now (settings .entry))) (now (out .entry))) ⌝ }
+{
+    let a = change::changed(held, settings);
     records::written(a, out)
 }
 

@@ -30,7 +30,7 @@ module _ (s : Settings) (h : settingsHold s ≡ true) (f : FitSettings s) (cs : 
 
   -- each tree on the way is the one that the plain trainer's stands for
   way-valid : (k : ℕ) → ValidTree (plainTreeAfter s cs k)
-  way-valid k = end-valid (start s) (take k cs) (start-valid s h (point-fits (f .ends))) .tree
+  way-valid k = end-valid (start s) (take k cs) (start-valid s h (point-fits (f .ends))) (every-take FitCall k cs c) .tree
 
   way-alike : (k : ℕ) → treeAfter s cs k ≡ embedTree (plainTreeAfter s cs k)
   way-alike k =
@@ -46,7 +46,7 @@ demand-3 s h f cs c =
       starts = starts-taken s h;
       asks = ap questionOf (starts-alike s h) ∙ question-embeds (start s) (start-valid s h (point-fits (f .ends)));
       events = ap (λ (t : Trainer). eventsOf t cs) (starts-alike s h) ∙ events-embed (start s) cs (start-valid s h (point-fits (f .ends))) (start-fits s h f) c;
-      final = ap recordOf (ends-alike s h f cs c cs c) ∙ record-embeds (plainEnd (start s) cs) (end-valid (start s) cs (start-valid s h (point-fits (f .ends))));
+      final = ap recordOf (ends-alike s h f cs c cs c) ∙ record-embeds (plainEnd (start s) cs) (end-valid (start s) cs (start-valid s h (point-fits (f .ends))) c);
       trees = λ k p. subst (λ (t : RuleTree). Parted t p) (sym (alike k)) (tree-parted (plainTreeAfter s cs k) (valid k) p);
       same = λ k. subst (λ (t : RuleTree). SameTree t (plainTreeAfter s cs k)) (sym (alike k)) (tree-same (plainTreeAfter s cs k) (valid k));
       senders = way-events (treeAfter s cs) (plainTreeAfter s cs) alike valid;

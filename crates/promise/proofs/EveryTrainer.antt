@@ -15,19 +15,21 @@ use Rattle.trainer.specs.declared.Answered.{Answered}
 use Rattle.trainer.specs.Settings.{settingsHold}
 use Rattle.trainer.specs.State.{acceptedOf}
 use Rattle.trainer.specs.Phases.{taken}
+use Rattle.trainer.specs.Change.{changeOf}
 use Rattle.trainer.specs.Calls.{started, questionOf, answerCountsOf, answerScoreOf}
 use Rattle.record.specs.declared.Saved.{Saved}
 use Rattle.record.specs.declared.Saved.the-variants.{Size, Refused}
 use Rattle.record.specs.Write.{recordOf}
 use Rattle.record.specs.Calls.{saveOf, bufferAfter, loadOf}
-use Rattle.promise.specs.PlainTrainer.{State, start, recordBytes, Call, counts, score, step, question}
+use Rattle.promise.specs.PlainTrainer.{State, start, recordBytes, Call, counts, score, change, step, question}
 use Rattle.promise.proofs.States.{embed, answered, ValidState}
 use Rattle.promise.proofs.Accepted.{accepted-embeds}
 use Rattle.promise.proofs.Begins.{start-embeds, start-valid}
 use Rattle.promise.proofs.AnswerCounts.{answer-counts-embeds}
 use Rattle.promise.proofs.AnswerScore.{answer-score-embeds}
+use Rattle.promise.proofs.AnswerChange.{change-embeds}
 use Rattle.promise.proofs.Questions.{question-embeds}
-use Rattle.promise.proofs.StepsKeep.{step-valid}
+use Rattle.promise.proofs.StepsKeep.{counted-valid, scored-valid, step-valid}
 use Rattle.promise.proofs.Records.{record-embeds}
 use Rattle.promise.specs.Values.{Every, FitSettings, FitCall}
 use Rattle.promise.specs.Demand3.{shownAs, eventsOf, endOf, plainEvents, plainEnd}
@@ -80,6 +82,10 @@ module _ (t : Trainer) (a : acceptedOf t ≡ true) (f : TrainerFits t) where
   unfolding step
   score-step x = ap (λ (u : Trainer). answerScoreOf u x) back ∙ answer-score-embeds (plainOf t) valid x
 
+  pub change-step : (s : Settings) → changeOf t s ≡ answered (step (plainOf t) (change s))
+  unfolding step
+  change-step s = ap (λ (u : Trainer). changeOf u s) back ∙ change-embeds (plainOf t) valid s
+
   pub question-asked : questionOf t ≡ shownAs (question (plainOf t))
   question-asked = ap questionOf back ∙ question-embeds (plainOf t) valid
 
@@ -112,14 +118,16 @@ module _ (t : Trainer) (a : acceptedOf t ≡ true) (f : TrainerFits t) where
       ∙ load-back
 
   -- ---- what a call leaves is accepted
-  after : (c : Call) → ValidState (step (plainOf t) c .state)
-  after c = step-valid (plainOf t) valid c
-
   pub counts-accepted : (xs : List ℕ) → acceptedOf (answerCountsOf t xs .trainer) ≡ true
-  counts-accepted xs = ap (λ (r : Answered). acceptedOf (r .trainer)) (counts-step xs) ∙ accepted-embeds _ (after (counts xs))
+  unfolding step
+  counts-accepted xs = ap (λ (r : Answered). acceptedOf (r .trainer)) (counts-step xs) ∙ accepted-embeds _ (counted-valid (plainOf t) valid xs)
 
   pub score-accepted : (x : Float) → acceptedOf (answerScoreOf t x .trainer) ≡ true
-  score-accepted x = ap (λ (r : Answered). acceptedOf (r .trainer)) (score-step x) ∙ accepted-embeds _ (after (score x))
+  unfolding step
+  score-accepted x = ap (λ (r : Answered). acceptedOf (r .trainer)) (score-step x) ∙ accepted-embeds _ (scored-valid (plainOf t) valid x)
+
+  pub change-accepted : (s : Settings) → FitSettings s → acceptedOf (changeOf t s .trainer) ≡ true
+  change-accepted s h = ap (λ (r : Answered). acceptedOf (r .trainer)) (change-step s) ∙ accepted-embeds _ (step-valid (plainOf t) valid (change s) h)
 
   -- and of its types
   pub counts-typed : (xs : List ℕ) → TrainerFits (answerCountsOf t xs .trainer)
@@ -132,6 +140,11 @@ module _ (t : Trainer) (a : acceptedOf t ≡ true) (f : TrainerFits t) where
       subst (λ (r : Answered). TrainerFits (r .trainer)) (sym (score-step x))
       (embed-fits (step (plainOf t) (score x) .state) (step-fits (plainOf t) valid fitting (score x) h))
 
+  pub change-typed : (s : Settings) → FitSettings s → TrainerFits (changeOf t s .trainer)
+  change-typed s h =
+      subst (λ (r : Answered). TrainerFits (r .trainer)) (sym (change-step s))
+      (embed-fits (step (plainOf t) (change s) .state) (step-fits (plainOf t) valid fitting (change s) h))
+
   -- ---- lists of calls
   pub run-steps : (cs : List Call) → Every FitCall cs → eventsOf t cs ≡ plainEvents (plainOf t) cs
   run-steps cs h = ap (λ (u : Trainer). eventsOf u cs) back ∙ events-embed (plainOf t) cs valid fitting h
@@ -140,7 +153,7 @@ module _ (t : Trainer) (a : acceptedOf t ≡ true) (f : TrainerFits t) where
   end-steps cs h = ap (λ (u : Trainer). endOf u cs) back ∙ end-embeds (plainOf t) cs valid fitting h
 
   pub end-record : (cs : List Call) → Every FitCall cs → recordOf (endOf t cs) ≡ recordBytes (plainEnd (plainOf t) cs)
-  end-record cs h = ap recordOf (end-steps cs h) ∙ record-embeds (plainEnd (plainOf t) cs) (end-valid (plainOf t) cs valid)
+  end-record cs h = ap recordOf (end-steps cs h) ∙ record-embeds (plainEnd (plainOf t) cs) (end-valid (plainOf t) cs valid h)
 
   pub end-accepted : (cs : List Call) → Every FitCall cs → acceptedOf (endOf t cs) ≡ true
-  end-accepted cs h = ap acceptedOf (end-steps cs h) ∙ accepted-embeds (plainEnd (plainOf t) cs) (end-valid (plainOf t) cs valid)
+  end-accepted cs h = ap acceptedOf (end-steps cs h) ∙ accepted-embeds (plainEnd (plainOf t) cs) (end-valid (plainOf t) cs valid h)

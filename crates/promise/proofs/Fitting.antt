@@ -1,6 +1,6 @@
 -- The trainer that a valid state stands for is of its types: it starts so where the settings' floats are binary64 values, and every
 -- call keeps it so. Assumes nothing.
-use mathlib.Core.Path.{_≡_, sym, ap, subst, _∙_}
+use mathlib.Core.Path.{_≡_, refl, sym, ap, subst, _∙_}
 use mathlib.Core.Bool.{Bool, true, false, cond}
 use mathlib.Core.List.{List, [], _∷_}
 use Prim.Native.Nat.{ℕ, zero, suc}
@@ -19,8 +19,8 @@ use Rattle.trainer.specs.State.{acceptedOf}
 use Rattle.record.proofs.Stands.{SettingsFits}
 use Rattle.record.proofs.RoundTrip.{TrainerFits}
 use Rattle.record.proofs.TreesFit.{valid-increment}
-use Rattle.record.proofs.StepsFit.{started-fits, counted-fits, scored-fits}
-use Rattle.promise.specs.PlainTrainer.{State, start, refuse, recordBytes, Call, counts, score, reload, step}
+use Rattle.record.proofs.StepsFit.{started-fits, counted-fits, scored-fits, changed-fits}
+use Rattle.promise.specs.PlainTrainer.{State, start, refuse, recordBytes, Call, counts, score, reload, change, changed, step}
 use Rattle.promise.specs.Values.{Every, FitAction, FitPoint, FitSettings, FitCall}
 use Rattle.promise.proofs.Candidates.{settings-facts}
 use Rattle.promise.proofs.States.{embed, ValidState}
@@ -28,6 +28,8 @@ use Rattle.promise.proofs.Accepted.{accepted-embeds}
 use Rattle.promise.proofs.Begins.{start-embeds, start-valid}
 use Rattle.promise.proofs.AnswerCounts.{answer-counts-embeds}
 use Rattle.promise.proofs.AnswerScore.{answer-score-embeds}
+use Rattle.promise.proofs.AnswerChange.{refused-stays, change-embeds}
+use Rattle.promise.proofs.PlainSettings.{settings-same}
 use Rattle.promise.proofs.StepsKeep.{step-valid}
 
 pub every-take : {A : Type 0} (P : A → Type 0) (k : ℕ) (xs : List A) → Every P xs → Every P (take k xs)
@@ -88,10 +90,16 @@ module _ (st : State) (v : ValidState st) (f : FitState st) where
   pub step-fits : (c : Call) → FitCall c → FitState (step st c .state)
   unfolding step
   step-fits (counts xs) h =
-      answer-fits _ _ (ap (λ (a : Answered). a .trainer) (answer-counts-embeds st v xs)) (step-valid st v (counts xs)) (counted-fits (embed st) xs f)
+      answer-fits _ _ (ap (λ (a : Answered). a .trainer) (answer-counts-embeds st v xs)) (step-valid st v (counts xs) h) (counted-fits (embed st) xs f)
   step-fits (score x) h =
-      answer-fits _ _ (ap (λ (a : Answered). a .trainer) (answer-score-embeds st v x)) (step-valid st v (score x))
+      answer-fits _ _ (ap (λ (a : Answered). a .trainer) (answer-score-embeds st v x)) (step-valid st v (score x) h)
       (scored-fits (embed st) x f h (accepted-embeds st v))
+  step-fits (change s) h = new-settings (settingsHold s) refl
+    where
+      new-settings : (b : Bool) → settingsHold s ≡ b → FitState (changed st s .state)
+      new-settings true e =
+          answer-fits _ _ (ap (λ (a : Answered). a .trainer) (change-embeds st v s)) (step-valid st v (change s) h) (changed-fits (embed st) s f (settings-fit s e h))
+      new-settings false e = subst FitState (sym (refused-stays st s (settings-same s ∙ e))) f
   step-fits (reload buffer) h = go (leb (length (recordBytes st)) (length buffer))
     where
       go : (z : Bool) → FitState (cond z (record { state = st; refused = 0; saved = recordBytes st }) (refuse 9 st) .state)

@@ -13,6 +13,7 @@ pub mod Accepted
 pub mod Begins
 pub mod AnswerCounts
 pub mod AnswerScore
+pub mod AnswerChange
 pub mod Questions
 pub mod StepsKeep
 pub mod RecordParts

@@ -1,4 +1,4 @@
--- 01, "The runs of demand 3", the trainer's part: whatever list of answers and reloads it is given, the trainer shows at each call
+-- 01, "The runs of demand 3", the trainer's part: whatever list of answers, reloads and new settings it is given, the trainer shows at each call
 -- what the plain trainer shows, and ends as the trainer that the plain one stands for. Assumes nothing.
 use mathlib.Core.Path.{_≡_, refl, sym, ap, _∙_}
 use mathlib.Core.Bool.{Bool, true, false, cond}
@@ -14,17 +14,20 @@ use Rattle.trainer.specs.declared.Answered.{Answered}
 use Rattle.trainer.specs.declared.Question.{Question}
 use Rattle.trainer.specs.Settings.{settingsHold}
 use Rattle.trainer.specs.Phases as layer
+use Rattle.trainer.specs.Change.{changeOf}
 use Rattle.trainer.specs.Calls.{started, startOf, questionOf, answerCountsOf, answerScoreOf}
 use Rattle.record.specs.declared.Saved.the-variants.{Size, Refused}
 use Rattle.record.specs.Calls.{saveOf, bufferAfter, loadOf}
 use Rattle.promise.specs.PlainTree.{Tree, Choice, nobody, leaf, leaves, unmarkedLeaves, mostUsed, used, countsTaken, split}
-use Rattle.promise.specs.PlainTrainer.{State, Phase, phase1, phase2, phase3, phase4, phase5, phase6, phase7, Outcome, at, start, become, refuse, splitChosen, beginRound, answer1, answer2, answer3, counted, scored, recordBytes, Call, counts, score, reload, step, question}
+use Rattle.promise.specs.PlainTrainer.{State, Phase, phase1, phase2, phase3, phase4, phase5, phase6, phase7, Outcome, at, start, become, refuse, splitChosen, beginRound, answer1, answer2, answer3, counted, scored, recordBytes, Call, counts, score, reload, change, taken, phaseAfter, changed, step, question}
+use Rattle.promise.specs.PlainSettings.{settingsTaken}
 use Rattle.promise.specs.Values.{Every, FitCall}
 use Rattle.promise.specs.Demand3.{Step, afterCall, reloaded, stepOf, Event, eventsOf, endOf, shownAs, plainEvents, plainEnd}
 use Rattle.promise.proofs.States.{embed, answered, ValidState}
 use Rattle.promise.proofs.Begins.{start-embeds}
 use Rattle.promise.proofs.AnswerCounts.{answer-counts-embeds}
 use Rattle.promise.proofs.AnswerScore.{answer-score-embeds}
+use Rattle.promise.proofs.AnswerChange.{change-embeds}
 use Rattle.promise.proofs.Questions.{question-embeds}
 use Rattle.promise.proofs.StepsKeep.{step-valid}
 use Rattle.promise.proofs.Fitting.{FitState, step-fits}
@@ -86,6 +89,13 @@ scored-plain st x (phase5 i best k kept) = becomes st _
 scored-plain st x phase6 = refused st 21
 scored-plain st x phase7 = refused st 21
 
+changed-plain : (st : State) (s : Settings) → Plain st (changed st s)
+unfolding changed
+changed-plain st s =
+    let new = at s (st .tree) (st .stage) (st .round) (phaseAfter (st .phase)) in
+    either st (settingsTaken s) (cond (taken st s) (become new) (refuse 27 st)) (refuse 2 st)
+    (either st (taken st s) (become new) (refuse 27 st) (becomes st new) (refused st 27)) (refused st 2)
+
 -- ---- each call
 abbrev plainStep : Outcome → Step
 plainStep o = record { trainer = embed (o .state); refused = o .refused; size = length (o .saved); saved = o .saved }
@@ -132,6 +142,7 @@ step-embeds st v f (counts xs) =
 step-embeds st v f (score x) =
     answer-step st (answerScoreOf (embed st) x) (scored st x (st .phase)) (answer-score-embeds st v x) (scored-plain st x (st .phase))
 step-embeds st v f (reload buffer) = reload-step st v f buffer
+step-embeds st v f (change s) = answer-step st (changeOf (embed st) s) (changed st s) (change-embeds st v s) (changed-plain st s)
 
 -- ---- lists of calls
 abbrev eventOf : Outcome → Question → Event
@@ -141,7 +152,7 @@ pub events-embed : (st : State) (cs : List Call) → ValidState st → FitState 
 unfolding eventsOf plainEvents
 events-embed st [] v f h = refl
 events-embed st (c ∷ cs) v f h =
-    let w = step-valid st v c in
+    let w = step-valid st v c (h .0) in
     ap (λ (o : Step). record { refused = o .refused; size = o .size; saved = o .saved; asks = questionOf (o .trainer) } ∷ eventsOf (o .trainer) cs) (step-embeds st v f c)
     ∙ ap (λ (q : Question). eventOf (step st c) q ∷ eventsOf (embed (step st c .state)) cs) (question-embeds (step st c .state) w)
     ∙ ap (λ (es : List Event). eventOf (step st c) (shownAs (question (step st c .state))) ∷ es)
@@ -152,12 +163,12 @@ unfolding endOf plainEnd
 end-embeds st [] v f h = refl
 end-embeds st (c ∷ cs) v f h =
     ap (λ (o : Step). endOf (o .trainer) cs) (step-embeds st v f c)
-    ∙ end-embeds (step st c .state) cs (step-valid st v c) (step-fits st v f c (h .0)) (h .1)
+    ∙ end-embeds (step st c .state) cs (step-valid st v c (h .0)) (step-fits st v f c (h .0)) (h .1)
 
-pub end-valid : (st : State) (cs : List Call) → ValidState st → ValidState (plainEnd st cs)
+pub end-valid : (st : State) (cs : List Call) → ValidState st → Every FitCall cs → ValidState (plainEnd st cs)
 unfolding plainEnd
-end-valid st [] v = v
-end-valid st (c ∷ cs) v = end-valid (step st c .state) cs (step-valid st v c)
+end-valid st [] v h = v
+end-valid st (c ∷ cs) v h = end-valid (step st c .state) cs (step-valid st v c (h .0)) (h .1)
 
 -- ---- from the start on
 start-is : (s : Settings) → settingsHold s ≡ true → startOf s ≡ layer.taken (started s)

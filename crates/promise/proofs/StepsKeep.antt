@@ -15,13 +15,15 @@ use Rattle.trainer.specs.declared.settings.Settings.{Settings}
 use Rattle.trainer.specs.Settings.{settingsHold}
 use Rattle.promise.specs.PlainCandidates.{improvements, noCandidate}
 use Rattle.promise.specs.PlainTree.{Tree, Rule, Choice, nobody, leaf, isLeaf, ruleAt, leaves, unmarkedLeaves, mostUsed, used, sum, countsTaken, split, setAction, mark, clearMarks}
-use Rattle.promise.specs.PlainTrainer.{State, Phase, Kept, nothing, just, phase1, phase2, phase3, phase4, phase5, phase6, phase7, Outcome, at, beginRound, become, refuse, splitChosen, answer1, answer2, answer3, tryAll, keep, afterLast, answer5, counted, scored, recordBytes, Call, counts, score, reload, step}
+use Rattle.promise.specs.PlainTrainer.{State, Phase, Kept, nothing, just, phase1, phase2, phase3, phase4, phase5, phase6, phase7, Outcome, at, beginRound, become, refuse, splitChosen, answer1, answer2, answer3, tryAll, keep, afterLast, answer5, counted, scored, recordBytes, Call, counts, score, reload, change, step}
+use Rattle.promise.specs.Values.{FitCall}
 use Rattle.promise.proofs.Embed.{ValidTree, leaf-below}
 use Rattle.promise.proofs.TreeSteps.{noRule}
 use Rattle.promise.proofs.TreeKeeps.{split-valid, action-valid, mark-valid, clear-valid}
 use Rattle.promise.proofs.MostUsed.{chosen-leaf, chosen-unmarked}
 use Rattle.promise.proofs.Candidates.{candidate-valid}
 use Rattle.promise.proofs.Begins.{round-valid}
+use Rattle.promise.proofs.AnswerChange.{changed-valid}
 use Rattle.promise.proofs.States.{Splitting, Tuning, AtLeaf, KeptHolds, ValidState}
 
 -- ---- counts
@@ -177,11 +179,12 @@ pub scored-valid : (st : State) → ValidState st → (x : Float) → ValidState
 scored-valid st v x = scored-in (st .settings) (st .tree) (st .stage) (st .round) (st .phase) v x
 
 -- ---- any call
-pub step-valid : (st : State) → ValidState st → (c : Call) → ValidState (step st c .state)
+pub step-valid : (st : State) → ValidState st → (c : Call) → FitCall c → ValidState (step st c .state)
 unfolding step
-step-valid st v (counts xs) = counted-valid st v xs
-step-valid st v (score x) = scored-valid st v x
-step-valid st v (reload buffer) = go (leb (length (recordBytes st)) (length buffer))
+step-valid st v (counts xs) h = counted-valid st v xs
+step-valid st v (score x) h = scored-valid st v x
+step-valid st v (change s) h = changed-valid st v s (record { acks = h .ends .acks; sends = h .ends .sends; ratios = h .ends .ratios })
+step-valid st v (reload buffer) h = go (leb (length (recordBytes st)) (length buffer))
   where
     go : (z : Bool) → ValidState (cond z (record { state = st; refused = 0; saved = recordBytes st }) (refuse 9 st) .state)
     go true = v

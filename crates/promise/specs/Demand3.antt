@@ -21,6 +21,7 @@ use Rattle.trainer.specs.declared.Answered.{Answered}
 use Rattle.trainer.specs.declared.Question.{Question}
 use Rattle.trainer.specs.declared.Question.the-variants as question
 use Rattle.trainer.specs.Calls.{startOf, questionOf, answerCountsOf, answerScoreOf}
+use Rattle.trainer.specs.Change.{changeOf}
 use Rattle.record.specs.declared.Saved.{Saved}
 use Rattle.record.specs.declared.Saved.the-variants as saved
 use Rattle.record.specs.Write.{recordOf}
@@ -57,6 +58,7 @@ unfolding reloaded
 stepOf t (plain.counts xs) = afterCall t (answerCountsOf t xs) 0 []
 stepOf t (plain.score x) = afterCall t (answerScoreOf t x) 0 []
 stepOf t (plain.reload buffer) = reloaded t buffer (saveOf t buffer)
+stepOf t (plain.change s) = afterCall t (changeOf t s) 0 []
 
 -- what is compared of a call: its refusal's number or 0, the size and the bytes of what it saved, and the question after it
 pub record Event : Type 0 where

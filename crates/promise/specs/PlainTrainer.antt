@@ -1,16 +1,17 @@
 -- Document 01's plain trainer: its state, one step for each phase, and its record.
-use mathlib.Core.Bool.{not, _&&_, cond}
+use mathlib.Core.Bool.{Bool, true, false, not, _&&_, cond}
 use mathlib.Core.List.{List, [], _∷_, _++_}
 use Prim.Native.Nat.{ℕ, _+_}
 use lib.ListN.{length, getD}
 use lib.Dec.{eqb, ltb, leb}
 use lib.IntN.{pos}
-use lib.Ieee.{Float, binary64, div, lt, le, ofInt}
+use lib.Ieee.{Float, binary64, div, eq, lt, le, ofInt}
 use Rattle.remy.specs.declared.action.Action.{Action}
 use Rattle.remy.specs.Cube as cube
 use Rattle.trainer.specs.declared.settings.Settings.{Settings}
 use Rattle.promise.specs.PlainCandidates.{improvements, noCandidate}
 use Rattle.promise.specs.PlainTree.{Tree, Choice, nobody, leaf, rootLeaf, ruleAt, split, setAction, mark, clearMarks, leaves, unmarkedLeaves, mostUsed, used, sum, countsTaken}
+use Rattle.promise.specs.PlainSettings.{settingsTaken}
 use Rattle.promise.specs.PlainRecord.{joined, byte, u16, u32, bits8, settingsPart, endsPart, treePart}
 
 -- "the kept candidate with its score, or none"
@@ -148,6 +149,45 @@ scored st x (phase5 i best k kept) = become (answer5 st i best k (keep best k x 
 scored st x phase6 = refuse 21 st
 scored st x phase7 = refuse 21 st
 
+-- ---- 02, wish 10: new settings in a running training
+-- "if an upper end differs"
+abbrev pub sameEnds : Settings → Settings → Bool
+sameEnds s u =
+    eq (cube.ack (s .ends)) (cube.ack (u .ends))
+    && (eq (cube.send (s .ends)) (cube.send (u .ends)) && eq (cube.ratio (s .ends)) (cube.ratio (u .ends)))
+
+-- "if the phase is 6 or 7, or if in phases 3 to 5 the round isn't below the new rounds"
+unfoldable pub goesOn : State → Settings → Phase → Bool
+goesOn st s phase1 = true
+goesOn st s phase2 = true
+goesOn st s phase3 = ltb (st .round) (s .«optimization_rounds_per_split»)
+goesOn st s (phase4 i) = ltb (st .round) (s .«optimization_rounds_per_split»)
+goesOn st s (phase5 i best k kept) = ltb (st .round) (s .«optimization_rounds_per_split»)
+goesOn st s phase6 = false
+goesOn st s phase7 = false
+
+-- "27 is given if an upper end differs, if the stage is above the new rule_splits, ..."
+unfoldable pub taken : State → Settings → Bool
+unfolding goesOn
+taken st s = sameEnds (st .settings) s && (leb (st .stage) (s .«rule_splits») && goesOn st s (st .phase))
+
+-- "In phases 4 and 5 it drops the candidates and returns to phase 4 for the same leaf; other phases stay"
+unfoldable pub phaseAfter : Phase → Phase
+phaseAfter phase1 = phase1
+phaseAfter phase2 = phase2
+phaseAfter phase3 = phase3
+phaseAfter (phase4 i) = phase4 i
+phaseAfter (phase5 i best k kept) = phase4 i
+phaseAfter phase6 = phase6
+phaseAfter phase7 = phase7
+
+-- "takes new settings with the same upper ends and keeps tree, stage and round"; "bad settings come first; then 27"
+unfoldable pub changed : State → Settings → Outcome
+unfolding taken phaseAfter
+changed st s =
+    cond (settingsTaken s)
+    (cond (taken st s) (become (at s (st .tree) (st .stage) (st .round) (phaseAfter (st .phase)))) (refuse 27 st)) (refuse 2 st)
+
 -- ---- the record, "its state written as above"
 unfoldable pub keptNumber : Kept → ℕ
 keptNumber nothing = 65535
@@ -187,14 +227,16 @@ pub data Call : Type 0 where
   counts : List ℕ → Call
   score : Float → Call
   reload : List ℕ → Call
+  change : Settings → Call
 
 -- "A reload leaves it too; its record is its state written as above, and 9 is due where the buffer is shorter than that"
 unfoldable pub step : State → Call → Outcome
-unfolding counted scored
+unfolding counted scored changed
 step st (counts xs) = counted st xs (st .phase)
 step st (score x) = scored st x (st .phase)
 step st (reload buffer) =
     cond (leb (length (recordBytes st)) (length buffer)) (record { state = st; refused = 0; saved = recordBytes st }) (refuse 9 st)
+step st (change s) = changed st s
 
 -- ---- the question: "the phase's kind, with leaf and action in 4 and 5, and progress stage / (rule_splits + 1) in floats"
 pub data Asked : Type 0 where

@@ -7,7 +7,7 @@ use Rattle.remy.specs.declared.action.Action.{Action}
 use Rattle.remy.specs.declared.point.Point.{Point}
 use Rattle.remy.specs.Cube.{ack, send, ratio}
 use Rattle.trainer.specs.declared.settings.Settings.{Settings}
-use Rattle.promise.specs.PlainTrainer.{Call, counts, score, reload}
+use Rattle.promise.specs.PlainTrainer.{Call, counts, score, reload, change}
 
 abbrev pub Every : {A : Type 0} → (A → Type 0) → List A → Type 0
 Every P [] = T true
@@ -34,3 +34,4 @@ abbrev pub FitCall : Call → Type 0
 FitCall (counts xs) = T true
 FitCall (score x) = T (fits binary64 x)
 FitCall (reload buffer) = T true
+FitCall (change s) = FitSettings s

@@ -1,4 +1,4 @@
--- A trainer that starts from fitting settings fits its types, and so does each trainer that an answer makes of it. Assumes nothing.
+-- A trainer that starts from fitting settings fits its types, and so does each trainer that an answer or new settings make of it. Assumes nothing.
 use mathlib.Core.Path.{_≡_}
 use mathlib.Core.Bool.{Bool, true, false, not, _&&_, cond}
 use mathlib.Core.List.{List}
@@ -24,8 +24,9 @@ use Rattle.trainer.specs.declared.Trainer.{Trainer}
 use Rattle.trainer.specs.declared.Answered.{Answered}
 use Rattle.trainer.specs.Settings.{settingsHold}
 use Rattle.trainer.specs.Candidates.{candidatesOf, noCandidate}
-use Rattle.trainer.specs.State.{none, stand, zeroBits, untriedIn, untried, idle, leafAction, leafHolds, tryHolds, splitting, tuning, ending, acceptedOf}
+use Rattle.trainer.specs.State.{none, stand, atLeaf, zeroBits, untriedIn, untried, idle, leafAction, leafHolds, tryHolds, splitting, tuning, ending, acceptedOf}
 use Rattle.trainer.specs.Phases.{beginStage, beginRound, mostUsedIn, splitMostUsed, phase1, phase2, nextRound, tuneNext, marked, tryFrom, keeps, afterLast, tried, phase5}
+use Rattle.trainer.specs.Change.{settingsFit, changedTo, changeOf}
 use Rattle.trainer.specs.Calls.{started, wantsCounts, wantsScore, countsStep, answerCountsOf, scoreStep, answerScoreOf}
 use Rattle.trainer.proofs.Holds.{and-left, and-right}
 use Rattle.trainer.proofs.CandidateLaws.{candidates-few}
@@ -35,7 +36,7 @@ use Rattle.record.proofs.RoundTrip.{TrainerFits}
 use Rattle.record.proofs.BytesFit.{zero-fits}
 use Rattle.record.proofs.TreesFit.{candidate-fits, split-fits, act-fits, mark-fits, clear-fits, fresh-fits}
 
--- ---- trainers: what an answer can change
+-- ---- trainers: what a call can change
 pub record Fit (t : Trainer) : Type 0 where
   pub settings : SettingsFits (t .settings)
   pub tree : TreeFits (t .tree)
@@ -145,6 +146,18 @@ module _ (t : Trainer) (f : Fit t) where
       unfolding answerScoreOf
       score-fit = answered (acceptedOf t) _ _ (answered (wantsScore (t .phase)) _ _ tries-fit f) f
 
+  -- ---- new settings
+  module _ (s : Settings) (g : SettingsFits s) where
+    new-fits : Fit (changedTo t s)
+    unfolding changedTo
+    new-fits =
+        either (wantsScore (t .phase)) (atLeaf s (t .tree) (t .stage) (t .round) (t .leaf)) (stand s (t .tree) (t .phase) (t .stage) (t .round))
+        (record { settings = g; tree = f .tree; best = zero-fits; score = zero-fits }) (stand-fits s g (t .tree) (f .tree) (t .phase) (t .stage) (t .round))
+
+    change-fit : Fit (changeOf t s .trainer)
+    unfolding changeOf
+    change-fit = answered (acceptedOf t) _ _ (answered (settingsHold s) _ _ (answered (settingsFit t s) _ _ new-fits f) f) f
+
 -- ---- the numbers of an accepted trainer
 abbrev Small : Trainer → Type 0
 Small t = (t .leaf < 513) × (t .k < 4096) × (t .kept < 65536)
@@ -214,7 +227,7 @@ module _ (t : Trainer) (a : acceptedOf t ≡ true) where
         score = f .score;
       }
 
--- ---- a start, and the answers
+-- ---- a start, the answers, and new settings
 part : (t : Trainer) → TrainerFits t → Fit t
 part t f = record { settings = f .settings; tree = f .tree; best = f .best; score = f .score }
 
@@ -228,3 +241,6 @@ counted-fits t xs f a = whole-fits (answerCountsOf t xs .trainer) a (counts-fit 
 pub scored-fits : (t : Trainer) (x : Float) → TrainerFits t → T (fits binary64 x) → acceptedOf t ≡ true → acceptedOf (answerScoreOf t x .trainer) ≡ true
     → TrainerFits (answerScoreOf t x .trainer)
 scored-fits t x f b h a = whole-fits (answerScoreOf t x .trainer) a (score-fit t (part t f) (accepted-settings t h) x b)
+
+pub changed-fits : (t : Trainer) (s : Settings) → TrainerFits t → SettingsFits s → acceptedOf (changeOf t s .trainer) ≡ true → TrainerFits (changeOf t s .trainer)
+changed-fits t s f g a = whole-fits (changeOf t s .trainer) a (change-fit t (part t f) s g)

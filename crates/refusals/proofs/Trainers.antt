@@ -20,6 +20,7 @@ use Rattle.trainer.specs.Candidates.{candidatesOf, pickOf, candidateOrder, cand
 use Rattle.trainer.specs.State.{acceptedOf}
 use Rattle.trainer.specs.Phases.{phase1, phase2}
 use Rattle.trainer.specs.Calls.{startOrder, questionOrder, scoreOrder, startOf, askedOf, questionOf, wantsCounts, wantsScore, countsStep, answerCountsOf, answerScoreOf}
+use Rattle.trainer.specs.Change.{settingsFit, changeOrder, changeOf}
 use Rattle.refusals.specs.Told.{candidateTold, questionTold}
 use Rattle.refusal.specs.Guards.{firstOf}
 use Rattle.refusals.specs.Order.{splitsOn, answerCountsOrder}
@@ -61,6 +62,11 @@ candidate-number s a k = next picks (settingsHold s) (next picks (validOf a) (pi
 pub answer-score-number : (t : Trainer) (x : Float) → answerScoreOf t x .refused ≡ firstOf (scoreOrder t)
 unfolding answerScoreOf firstOf
 answer-score-number t x = next answers (acceptedOf t) (next answers (wantsScore (t .phase)) refl refl) refl
+
+-- 02, wish 10: "After 10, bad settings come first; then 27"
+pub change-number : (t : Trainer) (s : Settings) → changeOf t s .refused ≡ firstOf (changeOrder t s)
+unfolding changeOf firstOf
+change-number t s = next answers (acceptedOf t) (next answers (settingsHold s) (next answers (settingsFit t s) refl refl) refl) refl
 
 -- ---- 20
 -- the two tests of a number against a bound are each other's contrary

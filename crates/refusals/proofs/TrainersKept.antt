@@ -5,11 +5,14 @@ use Prim.Native.Nat.{ℕ}
 use lib.Dec.{eqb, ltb}
 use lib.Ieee.{Float}
 use Rattle.rule_tree.specs.Counts.{countsHold, usedIn}
+use Rattle.trainer.specs.declared.settings.Settings.{Settings}
 use Rattle.trainer.specs.declared.Trainer.{Trainer}
 use Rattle.trainer.specs.declared.Answered.{Answered}
+use Rattle.trainer.specs.Settings.{settingsHold}
 use Rattle.trainer.specs.State.{acceptedOf}
 use Rattle.trainer.specs.Phases.{phase1, phase2}
 use Rattle.trainer.specs.Calls.{wantsCounts, wantsScore, countsStep, answerCountsOf, answerScoreOf}
+use Rattle.trainer.specs.Change.{settingsFit, changeOf}
 use Rattle.refusals.proofs.Ways.{either, Keeps}
 
 abbrev answers : Answered → ℕ
@@ -28,6 +31,11 @@ stayed n = refl
 pub answer-score-keeps : (t : Trainer) (x : Float) → (answerScoreOf t x .refused ≡ 0 → ⊥) → answerScoreOf t x .trainer ≡ t
 unfolding answerScoreOf
 answer-score-keeps t x = either (Same t) (acceptedOf t) (either (Same t) (wantsScore (t .phase)) took stayed) stayed
+
+pub change-keeps : (t : Trainer) (s : Settings) → (changeOf t s .refused ≡ 0 → ⊥) → changeOf t s .trainer ≡ t
+unfolding changeOf
+change-keeps t s =
+    either (Same t) (acceptedOf t) (either (Same t) (settingsHold s) (either (Same t) (settingsFit t s) took stayed) stayed) stayed
 
 phase1-keeps : (t : Trainer) (xs : List ℕ) → Same t (phase1 t xs)
 unfolding phase1

@@ -108,6 +108,16 @@ fn answer_score(r: Replay, fields: &[u8], out: &mut [u8]) -> Replay {
     answered(r, a, b"ok", out)
 }
 
+// New settings. A drill byte that is neither 0 nor 1 is refused with them.
+fn change_settings(r: Replay, fields: &[u8], out: &mut [u8]) -> Replay {
+    let trainer = r.trainer;
+    if 1 < input::byte_at(fields, 12) {
+        return refused(r, refusal::BAD_SETTINGS, out);
+    }
+    let a = trainer.change_settings(input::settings_at(fields));
+    answered(r, a, b"ok", out)
+}
+
 // The load of a reload, of the bytes that were saved.
 fn load_back(r: Replay, record: &[u8], out: &mut [u8]) -> Replay {
     let a = record::load(record);
@@ -309,6 +319,7 @@ fn trainer_call(r: Replay, code: u8, fields: &[u8], out: &mut [u8]) -> Replay {
         1 => answer_counts(r, fields, out),
         2 => answer_score(r, fields, out),
         3 => reload(r, fields, out),
+        15 => change_settings(r, fields, out),
         _ => load(r, fields, out),
     }
 }
@@ -337,7 +348,7 @@ fn tree_call(r: Replay, code: u8, fields: &[u8], out: &mut [u8]) -> Replay {
 // The call with a code and its fields.
 pub(crate) fn call(r: Replay, code: u8, fields: &[u8], out: &mut [u8]) -> Replay {
     match code {
-        1 | 2 | 3 | 13 => trainer_call(r, code, fields, out),
+        1 | 2 | 3 | 13 | 15 => trainer_call(r, code, fields, out),
         4 | 5 | 6 | 7 => sender_call(r, code, fields, out),
         22 => apply(r, fields, out),
         25 => even_row(r, fields, out),

@@ -171,7 +171,7 @@ pub(crate) fn numbers_at(bytes: &[u8]) -> [u64; 600] {
 
 // How many bytes follow a call's code; for codes 1, 13, 14 and 26 those that say how many more do.
 fn head_size(code: u8) -> usize
-    ensures { λ r. ⌜ r ≤ 46 ⌝ }
+    ensures { λ r. ⌜ r ≤ 137 ⌝ }
 {
     match code {
         1 | 3 | 26 => 2,
@@ -180,12 +180,13 @@ fn head_size(code: u8) -> usize
         8 | 10 | 11 | 22 | 25 => 24,
         9 => 46,
         13 | 14 => 4,
+        15 => 137,
         _ => 0,
     }
 }
 
 fn known(code: u8) -> bool {
-    (1 <= code && code <= 14) || code == 17 || code == 22 || code == 25 || code == 26
+    (1 <= code && code <= 15) || code == 17 || code == 22 || code == 25 || code == 26
 }
 
 // A call whose fields are the next n bytes, at most so many.

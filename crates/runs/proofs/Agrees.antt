@@ -28,7 +28,7 @@ use Rattle.promise.specs.PlainSettings.{modeTaken, freshStart}
 use Rattle.promise.specs.PlainTree.{Tree, Choice, nobody, leaf}
 use Rattle.promise.specs.PlainTrainer.{State, Call, Asked, wantsCounts, wantsScore, finished, recordBytes, step, start, question}
 use Rattle.promise.specs.PlainSender.{PlainSender, stateOf, leafAt, react}
-use Rattle.promise.specs.Values.{Every, FitSettings}
+use Rattle.promise.specs.Values.{Every, FitSettings, FitCall}
 use Rattle.promise.specs.Demand3.{Step, stepOf, shownAs}
 use Rattle.sender.specs.SenderCall as runs
 use Rattle.promise.specs.SenderRuns.{SenderStep, senderStep, plainStart}
@@ -109,14 +109,14 @@ module _ (st : State) (v : ValidState st) (f : FitState st) where
 -- ---- one call, and then the rest
 module _ (is : List Item) (st : State) (s : PlainSender) (v : ValidState st) (f : FitState st) where
   train-agrees :
-      (c : Call) → ranFrom (embed (step st c .state)) (stateOf s) is ≡ comparedFrom (step st c .state) s is
+      (c : Call) → FitCall c → ranFrom (embed (step st c .state)) (stateOf s) is ≡ comparedFrom (step st c .state) s is
       → stepWords (stepOf (embed st) c) ++ ranFrom (stepOf (embed st) c .trainer) (stateOf s) is
       ≡ outcomeWords (step st c) ++ comparedFrom (step st c .state) s is
-  train-agrees c e =
+  train-agrees c h e =
       let o = step st c in
       ap (λ (x : Step). stepWords x ++ ranFrom (x .trainer) (stateOf s) is) (step-embeds st v f c)
       ∙ ap (λ (ws : List ℕ). (o .refused ∷ (length (o .saved) ∷ (o .saved ++ ws))) ++ ranFrom (embed (o .state)) (stateOf s) is)
-      (question-agrees (o .state) (step-valid st v c))
+      (question-agrees (o .state) (step-valid st v c h))
       ∙ ap (λ (ws : List ℕ). outcomeWords o ++ ws) e
 
   sender-agrees :
@@ -171,7 +171,7 @@ from-agrees :
 unfolding ranFrom comparedFrom
 from-agrees [] st s v f h = ap (λ (ws : List ℕ). ws ++ senderWords (stateOf s)) (end-agrees st v f)
 from-agrees (train c ∷ is) st s v f h =
-    train-agrees is st s v f c (from-agrees is (step st c .state) s (step-valid st v c) (step-fits st v f c (h .0)) (h .1))
+    train-agrees is st s v f c (h .0) (from-agrees is (step st c .state) s (step-valid st v c (h .0)) (step-fits st v f c (h .0)) (h .1))
 from-agrees (ack sent received draw ∷ is) st s v f h =
     ack-agrees is st s v f sent received draw (from-agrees is st (react s (runs.ack (st .tree) sent received draw) .sender) v f (h .1))
 from-agrees (send at ∷ is) st s v f h = send-agrees is st s v f at (from-agrees is st (react s (runs.send at) .sender) v f (h .1))

@@ -20,10 +20,10 @@ use Rattle.rule_tree.specs.declared.RuleTree.{RuleTree}
 use Rattle.trainer.specs.declared.settings.Settings.{Settings}
 use Rattle.sender.specs.declared.RepeatMode.the-variants.{Off, Always, Between}
 use Rattle.sender.specs.declared.Draw.{Draw}
-use Rattle.promise.specs.PlainTrainer.{counts, score, reload}
+use Rattle.promise.specs.PlainTrainer.{counts, score, reload, change}
 use Rattle.sender.specs.SenderCall as runs
-use Rattle.runs.specs.Script.{Item, train, lookup, word, number, float, action, ends, settings, mode, drawOf, bytesOf, sizeOf, itemOf, wholeOf, itemsOf}
-use Rattle.runs.specs.Turn.{First, fixedSize, listedSize, wholeSize, trainerCall, senderCall}
+use Rattle.runs.specs.Script.{Item, train, lookup, word, number, float, action, ends, settingsAt, mode, drawOf, bytesOf, sizeOf, itemOf, wholeOf, itemsOf}
+use Rattle.runs.specs.Turn.{First, fixedSize, listedSize, wholeSize, trainerCall, senderCall, otherItem}
 use Rattle.runs.proofs.Putting.{lt-or-le}
 
 -- ---- the settings and the mode
@@ -33,11 +33,13 @@ action-read ws i e p q s t =
     let z = q ∙ ap (toZ w32) s in
     e ∙ (λ j. record { «window_multiplier» = p j; «window_increment» = z j; «intersend_delay» = record { 0 = t j } })
 
-pub ends-read : (ws : List ℕ) {a s r : Float} {p : Point} → p ≡ pointOf a s r → a ≡ float ws 43 → s ≡ float ws 44 → r ≡ float ws 45 → p ≡ ends ws
-ends-read ws e a s r = e ∙ (λ j. pointOf (a j) (s j) (r j))
+pub ends-read : (ws : List ℕ) (i : ℕ) {a s r : Float} {p : Point} → p ≡ pointOf a s r → a ≡ float ws i → s ≡ float ws (i + 1) → r ≡ float ws (i + 2)
+    → p ≡ ends ws i
+ends-read ws i e a s r = e ∙ (λ j. pointOf (a j) (s j) (r j))
 
-pub settings-read : (ws : List ℕ) {a b c : ℕ} {d : Bool} {e f g h k : Action} {p : Point} → a ≡ number ws 0 → b ≡ number ws 1 → c ≡ number ws 2
-    → d ≡ eqb (word ws 3) 1 → e ≡ action ws 4 → f ≡ action ws 7 → g ≡ action ws 10 → h ≡ action ws 13 → k ≡ action ws 16 → p ≡ ends ws
+pub settings-read : (ws : List ℕ) (i at : ℕ) {a b c : ℕ} {d : Bool} {e f g h k : Action} {p : Point} → a ≡ number ws i → b ≡ number ws (i + 1)
+    → c ≡ number ws (i + 2) → d ≡ eqb (word ws (i + 3)) 1 → e ≡ action ws (i + 4) → f ≡ action ws (i + 7) → g ≡ action ws (i + 10)
+    → h ≡ action ws (i + 13) → k ≡ action ws (i + 16) → p ≡ ends ws at
     → _≡_ {A = Settings}
     (record {
       «rule_splits» = a;
@@ -51,8 +53,8 @@ pub settings-read : (ws : List ℕ) {a b c : ℕ} {d : Bool} {e f g h k : Action
       «default_action» = k;
       ends = p;
     })
-    (settings ws)
-settings-read ws a b c d e f g h k p =
+    (settingsAt ws i at)
+settings-read ws i at a b c d e f g h k p =
     λ j.
     record {
       «rule_splits» = a j;
@@ -84,9 +86,10 @@ module _ (ws : List ℕ) (kind : ℕ) (is : kind ≡ word ws 20) where
 pub fixed-is : (code k : ℕ) → code ≡ k → fixedSize k ≡ fixedSize code
 fixed-is code k e = ap fixedSize (sym e)
 
-pub fixed-none : (code : ℕ) → (code ≡ 2 → ⊥) → (code ≡ 4 → ⊥) → (code ≡ 5 → ⊥) → (code ≡ 6 → ⊥) → (code ≡ 8 → ⊥) → 0 ≡ fixedSize code
+pub fixed-none : (code : ℕ) → (code ≡ 2 → ⊥) → (code ≡ 4 → ⊥) → (code ≡ 5 → ⊥) → (code ≡ 6 → ⊥) → (code ≡ 8 → ⊥) → (code ≡ 15 → ⊥)
+    → 0 ≡ fixedSize code
 unfolding fixedSize
-fixed-none code a c d e f = rw (ne-eqb code 2 a, ne-eqb code 4 c, ne-eqb code 5 d, ne-eqb code 6 e, ne-eqb code 8 f)
+fixed-none code a c d e f g = rw (ne-eqb code 2 a, ne-eqb code 4 c, ne-eqb code 5 d, ne-eqb code 6 e, ne-eqb code 8 f, ne-eqb code 15 g)
 
 module _ (ws : List ℕ) where
   pub size-counts : word ws 0 ≡ 1 → sizeOf ws ≡ 2 + word ws 1
@@ -253,17 +256,24 @@ module _ (ws : List ℕ) (code : ℕ) (is : code ≡ word ws 0) where
       ⊎-elim (λ (h : code < 2). is-counts (omega arith))
       (λ (h : 2 ≤ code). ⊎-elim (λ (k : code < 3). is-score (omega arith)) (λ (k : 3 ≤ code). is-reload (omega arith)) (lt-or-le code 3)) (lt-or-le code 2)
 
-  item-lookup : (code ≡ 1 → ⊥) → (code ≡ 2 → ⊥) → (code ≡ 3 → ⊥) → (code ≡ 4 → ⊥) → (code ≡ 5 → ⊥) → (code ≡ 6 → ⊥)
-      → lookup (pointOf (float ws 1) (float ws 2) (float ws 3)) ≡ itemOf ws
-  unfolding itemOf
-  item-lookup a b c d e f =
+  pub other-settings : code ≡ 15 → train (change (settingsAt ws 1 20)) ≡ otherItem ws
+  unfolding otherItem
+  other-settings e = rw (← is, e)
+
+  pub other-lookup : (code ≡ 15 → ⊥) → lookup (pointOf (float ws 1) (float ws 2) (float ws 3)) ≡ otherItem ws
+  unfolding otherItem
+  other-lookup n = rw (← is, ne-eqb code 15 n)
+
+  item-other : (code ≡ 1 → ⊥) → (code ≡ 2 → ⊥) → (code ≡ 3 → ⊥) → (code ≡ 4 → ⊥) → (code ≡ 5 → ⊥) → (code ≡ 6 → ⊥) → otherItem ws ≡ itemOf ws
+  unfolding itemOf otherItem
+  item-other a b c d e f =
       rw (← is, ne-eqb code 1 a, ne-eqb code 2 b, ne-eqb code 3 c, ne-eqb code 4 d, ne-eqb code 5 e, ne-eqb code 6 f)
 
-  pub low-lookup : code < 1 → lookup (pointOf (float ws 1) (float ws 2) (float ws 3)) ≡ itemOf ws
-  low-lookup h = item-lookup (λ e. omega arith) (λ e. omega arith) (λ e. omega arith) (λ e. omega arith) (λ e. omega arith) (λ e. omega arith)
+  pub low-other : code < 1 → otherItem ws ≡ itemOf ws
+  low-other h = item-other (λ e. omega arith) (λ e. omega arith) (λ e. omega arith) (λ e. omega arith) (λ e. omega arith) (λ e. omega arith)
 
-  pub high-lookup : 7 ≤ code → lookup (pointOf (float ws 1) (float ws 2) (float ws 3)) ≡ itemOf ws
-  high-lookup h = item-lookup (λ e. omega arith) (λ e. omega arith) (λ e. omega arith) (λ e. omega arith) (λ e. omega arith) (λ e. omega arith)
+  pub high-other : 7 ≤ code → otherItem ws ≡ itemOf ws
+  high-other h = item-other (λ e. omega arith) (λ e. omega arith) (λ e. omega arith) (λ e. omega arith) (λ e. omega arith) (λ e. omega arith)
 
 -- ---- the list of calls
 pub no-calls : (n : ℕ) (ws : List ℕ) → wholeOf ws ≡ false → itemsOf n ws ≡ []

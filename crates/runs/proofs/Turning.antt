@@ -19,7 +19,9 @@ use Rattle.trainer.specs.declared.Trainer.{Trainer}
 use Rattle.trainer.specs.declared.Answered.{Answered}
 use Rattle.trainer.specs.declared.Question.{Question}
 use Rattle.trainer.specs.State.{acceptedOf}
+use Rattle.trainer.specs.declared.settings.Settings.{Settings}
 use Rattle.trainer.specs.Calls.{questionOf, answerCountsOf, answerScoreOf}
+use Rattle.trainer.specs.Change.{changeOf}
 use Rattle.record.specs.declared.Saved.{Saved}
 use Rattle.record.specs.declared.Saved.the-variants as saved
 use Rattle.record.specs.Write.{recordOf}
@@ -110,6 +112,11 @@ module _ (t : Trainer) (out : List ℕ) (at : ℕ) where
         → Trains out at (stepOf t (plain.score x)) q after
     unfolding stepOf
     by-score x e l = rw e at l
+
+    pub by-settings : (s : Settings) {a : Answered} → a ≡ changeOf t s → Trains out at (afterCall t a 0 []) q after
+        → Trains out at (stepOf t (plain.change s)) q after
+    unfolding stepOf
+    by-settings s e l = rw e at l
 
     -- a save that is taken, and the load of its bytes
     pub by-load : (buf : List ℕ) (n : ℕ) {s : Saved} {a : Answered} {last : List ℕ} → s ≡ saveOf t buf → s ≡ saved.Size n

@@ -6,23 +6,26 @@ use lib.Dec.{T, eqb}
 use lib.ListN.{length, take, drop}
 use Rattle.floats.proofs.Bits.{read-fits}
 use Rattle.remy.specs.Cube.{pointOf}
-use Rattle.promise.specs.PlainTrainer.{counts, score, reload}
+use Rattle.promise.specs.PlainTrainer.{counts, score, reload, change}
 use Rattle.promise.specs.Values.{Every, FitAction, FitSettings, FitCall}
-use Rattle.runs.specs.Script.{word, float, action, settings, Item, train, ack, send, tick, lookup, drawOf, bytesOf, sizeOf, itemOf, wholeOf, itemsOf, callsOf}
+use Rattle.runs.specs.Script.{word, float, action, settings, settingsAt, Item, train, ack, send, tick, lookup, drawOf, bytesOf, sizeOf, itemOf, wholeOf, itemsOf, callsOf}
 
 action-fits : (ws : List ℕ) (i : ℕ) → FitAction (action ws i)
 action-fits ws i = record { multiplier = read-fits (word ws i); delay = read-fits (word ws (i + 2)) }
 
-pub settings-fit : (ws : List ℕ) → FitSettings (settings ws)
-settings-fit ws =
+settings-at-fit : (ws : List ℕ) (i e : ℕ) → FitSettings (settingsAt ws i e)
+settings-at-fit ws i e =
     record {
-      least = action-fits ws 4;
-      most = action-fits ws 7;
-      initial = action-fits ws 10;
-      largest = action-fits ws 13;
-      default = action-fits ws 16;
-      ends = record { acks = read-fits (word ws 43); sends = read-fits (word ws 44); ratios = read-fits (word ws 45) };
+      least = action-fits ws (i + 4);
+      most = action-fits ws (i + 7);
+      initial = action-fits ws (i + 10);
+      largest = action-fits ws (i + 13);
+      default = action-fits ws (i + 16);
+      ends = record { acks = read-fits (word ws e); sends = read-fits (word ws (e + 1)); ratios = read-fits (word ws (e + 2)) };
     }
+
+pub settings-fit : (ws : List ℕ) → FitSettings (settings ws)
+settings-fit ws = settings-at-fit ws 0 43
 
 -- ---- calls
 abbrev pub FitItem : Item → Type 0
@@ -45,7 +48,8 @@ item-fits ws =
     (either (eqb code 3) (train (reload (bytesOf (take (word ws 1) (drop 2 ws))))) _ tt
     (either (eqb code 4) (ack (float ws 1) (float ws 2) (drawOf (word ws 3))) _ tt
     (either (eqb code 5) (send (float ws 1)) _ tt
-    (either (eqb code 6) tick (lookup (pointOf (float ws 1) (float ws 2) (float ws 3))) tt tt)))))
+    (either (eqb code 6) tick _ tt
+    (either (eqb code 15) (train (change (settingsAt ws 1 20))) (lookup (pointOf (float ws 1) (float ws 2) (float ws 3))) (settings-at-fit ws 1 20) tt))))))
 
 items-fit : (n : ℕ) (ws : List ℕ) → Every FitItem (itemsOf n ws)
 unfolding itemsOf

@@ -26,7 +26,7 @@ use Rattle.sender.specs.declared.Draw.the-variants.{Absent, Given}
 use Rattle.sender.specs.declared.RepeatMode.{RepeatMode}
 use Rattle.sender.specs.declared.RepeatMode.the-variants.{Off, Always, Between}
 use Rattle.sender.specs.declared.Sender.{Sender}
-use Rattle.promise.specs.PlainTrainer.{Call, counts, score, reload}
+use Rattle.promise.specs.PlainTrainer.{Call, counts, score, reload, change}
 
 abbrev pub word : List ℕ → ℕ → ℕ
 word ws i = getD ws i 0
@@ -41,25 +41,29 @@ float ws i = ofBits binary64 (word ws i)
 abbrev pub action : List ℕ → ℕ → Action
 action ws i = actionOf (float ws i) (toZ w32 (number ws (i + 1))) (float ws (i + 2))
 
--- the upper ends: words 43 to 45, after the sender
-abbrev pub ends : List ℕ → Point
-ends ws = pointOf (float ws 43) (float ws 44) (float ws 45)
+-- the upper ends from word i on
+abbrev pub ends : List ℕ → ℕ → Point
+ends ws i = pointOf (float ws i) (float ws (i + 1)) (float ws (i + 2))
 
--- the first 19 words, and the upper ends
-abbrev pub settings : List ℕ → Settings
-settings ws =
+-- the 19 words from word i on, and the upper ends from word e on
+abbrev pub settingsAt : List ℕ → ℕ → ℕ → Settings
+settingsAt ws i e =
     record {
-      «rule_splits» = number ws 0;
-      «optimization_rounds_per_split» = number ws 1;
-      «action_change_multiplier» = number ws 2;
-      «drill_down» = eqb (word ws 3) 1;
-      «min_action» = action ws 4;
-      «max_action» = action ws 7;
-      «initial_action_change» = action ws 10;
-      «max_action_change» = action ws 13;
-      «default_action» = action ws 16;
-      ends = ends ws;
+      «rule_splits» = number ws i;
+      «optimization_rounds_per_split» = number ws (i + 1);
+      «action_change_multiplier» = number ws (i + 2);
+      «drill_down» = eqb (word ws (i + 3)) 1;
+      «min_action» = action ws (i + 4);
+      «max_action» = action ws (i + 7);
+      «initial_action_change» = action ws (i + 10);
+      «max_action_change» = action ws (i + 13);
+      «default_action» = action ws (i + 16);
+      ends = ends ws e;
     }
+
+-- the settings of the start: the first 19 words, and words 43 to 45, after the sender
+abbrev pub settings : List ℕ → Settings
+settings ws = settingsAt ws 0 43
 
 -- word 19: 0 for a fresh sender of the mode that follows, any other number for a sender handed in, whose whole state follows
 abbrev pub fresh : List ℕ → Bool
@@ -118,15 +122,15 @@ pub data Item : Type 0 where
   tick : Item
   lookup : Point → Item
 
--- how many words the first call takes: 1 counts, 2 score, 3 reload by a buffer of at most 32,768 bytes, 4 ack, 5 send, 6 tick, 8 lookup;
--- 0 for no such call
+-- how many words the first call takes: 1 counts, 2 score, 3 reload by a buffer of at most 32,768 bytes, 4 ack, 5 send, 6 tick, 8 lookup,
+-- 15 new settings, whose 19 words and three upper ends follow; 0 for no such call
 unfoldable pub sizeOf : List ℕ → ℕ
 sizeOf ws =
     let code = word ws 0 in
     cond (eqb code 1) (2 + word ws 1)
     (cond (eqb code 2) 2
     (cond (eqb code 3) (cond (leb (word ws 1) 32768) (2 + word ws 1) 0)
-    (cond (eqb code 4) 4 (cond (eqb code 5) 2 (cond (eqb code 6) 1 (cond (eqb code 8) 4 0))))))
+    (cond (eqb code 4) 4 (cond (eqb code 5) 2 (cond (eqb code 6) 1 (cond (eqb code 8) 4 (cond (eqb code 15) 23 0)))))))
 
 unfoldable pub itemOf : List ℕ → Item
 itemOf ws =
@@ -136,7 +140,8 @@ itemOf ws =
     (cond (eqb code 3) (train (reload (bytesOf (take (word ws 1) (drop 2 ws)))))
     (cond (eqb code 4) (ack (float ws 1) (float ws 2) (drawOf (word ws 3)))
     (cond (eqb code 5) (send (float ws 1))
-    (cond (eqb code 6) tick (lookup (pointOf (float ws 1) (float ws 2) (float ws 3))))))))
+    (cond (eqb code 6) tick
+    (cond (eqb code 15) (train (change (settingsAt ws 1 20))) (lookup (pointOf (float ws 1) (float ws 2) (float ws 3)))))))))
 
 -- a call of a known code, none of its words cut off
 unfoldable pub wholeOf : List ℕ → Bool

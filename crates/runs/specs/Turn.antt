@@ -5,6 +5,7 @@ use mathlib.Core.List.{List}
 use Prim.Native.Nat.{ℕ, _+_, _<_, _≤_}
 use lib.Dec.{eqb, leb}
 use lib.ListN.{length, take, drop}
+use Rattle.remy.specs.Cube.{pointOf}
 use Rattle.rule_tree.specs.declared.RuleTree.{RuleTree}
 use Rattle.rule_tree.specs.Calls.{lookupOf}
 use Rattle.trainer.specs.declared.Trainer.{Trainer}
@@ -16,7 +17,7 @@ use Rattle.sender.specs.SenderCall as runs
 use Rattle.runs.specs.declared.calls.Trained.{Trained}
 use Rattle.runs.specs.declared.calls.Reacted.{Reacted}
 use Rattle.runs.specs.declared.State.{State}
-use Rattle.runs.specs.Script.{Item, train, ack, send, tick, lookup, word, float, drawOf, bytesOf, sizeOf, wholeOf}
+use Rattle.runs.specs.Script.{Item, train, ack, send, tick, lookup, word, float, settingsAt, drawOf, bytesOf, sizeOf, wholeOf}
 use Rattle.runs.specs.Ran.{stepWords, moveWords, lookedWords, putWords, placeAfter}
 
 -- words put from place at on, the place after them, and the slice then
@@ -64,7 +65,7 @@ pub record Moves (out : List ℕ) (at : ℕ) (o : SenderStep) (q : Reacted) (aft
 -- the size of a call of any code but 1 and 3
 unfoldable pub fixedSize : ℕ → ℕ
 fixedSize code =
-    cond (eqb code 2) 2 (cond (eqb code 4) 4 (cond (eqb code 5) 2 (cond (eqb code 6) 1 (cond (eqb code 8) 4 0))))
+    cond (eqb code 2) 2 (cond (eqb code 4) 4 (cond (eqb code 5) 2 (cond (eqb code 6) 1 (cond (eqb code 8) 4 (cond (eqb code 15) 23 0)))))
 
 -- the size of a call that lists its words, 0 where it is cut off
 unfoldable pub listedSize : List ℕ → ℕ
@@ -87,6 +88,11 @@ trainerCall ws =
     let code = word ws 0 in
     cond (eqb code 1) (plain.counts (take (word ws 1) (drop 2 ws)))
     (cond (eqb code 2) (plain.score (float ws 1)) (plain.reload (bytesOf (take (word ws 1) (drop 2 ws)))))
+
+-- a call of any other code that stands first: new settings where it is 15, or else a lookup
+unfoldable pub otherItem : List ℕ → Item
+otherItem ws =
+    cond (eqb (word ws 0) 15) (train (plain.change (settingsAt ws 1 20))) (lookup (pointOf (float ws 1) (float ws 2) (float ws 3)))
 
 -- the call to the sender that stands first, of code 4, 5 or else 6
 unfoldable pub senderCall : RuleTree → List ℕ → runs.SenderCall RuleTree

@@ -23,6 +23,7 @@ use sender::Reply;
 use sender::Sender;
 use trainer::Answered;
 use trainer::Trainer;
+use trainer::settings::Settings;
 
 // The trainer after a call, and the place after the call's words.
 pub(crate) struct Trained {
@@ -72,6 +73,14 @@ fn answer_score(t: Trainer, score: f64, out: &mut [u64], at: usize) -> Trained
     ensures { λ q. ⌜ Trains (now (out .entry)) at (stepOf t (plain.score score)) q (now (out .exit)) ⌝ }
 {
     let a = t.answer_score(score);
+    report(t, a, b"", out, at)
+}
+
+fn change_settings(t: Trainer, s: Settings, out: &mut [u64], at: usize) -> Trained
+    requires { ⌜ at ≤ length (now out) ⌝ }
+    ensures { λ q. ⌜ Trains (now (out .entry)) at (stepOf t (plain.change s)) q (now (out .exit)) ⌝ }
+{
+    let a = t.change_settings(s);
     report(t, a, b"", out, at)
 }
 
@@ -197,6 +206,15 @@ pub(crate) fn trainer_call(
         2 => answer_score(t, script::float(ws, 1), out, at),
         _ => reload(t, &ws[2..size], out, at),
     }
+}
+
+// The new settings that stand first in the words.
+pub(crate) fn change_call(t: Trainer, ws: &[u64], out: &mut [u64], at: usize) -> Trained
+    requires { ⌜ at ≤ length (now out) ⌝ }
+    ensures { λ q. ⌜ Trains (now (out .entry)) at (stepOf t (plain.change (spec.settingsAt (now (ws .entry)) 1 20))) q (now (out .exit)) ⌝ }
+{
+    let s = script::settings_at(ws, 1, 20);
+    change_settings(t, s, out, at)
 }
 
 // The call to the sender that stands first in the words, an ack over the tree.

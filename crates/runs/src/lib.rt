@@ -5,12 +5,13 @@ ghost use mathlib.Core.List.{_∷_, _++_};
 ghost use lib.ListN.{length, drop};
 ghost use Rattle.remy.specs.Cube.{pointOf};
 ghost use Rattle.trainer.specs.Calls.{questionOf};
+ghost use Rattle.promise.specs.PlainTrainer as plain;
 ghost use Rattle.promise.specs.SenderRuns.{senderStep};
 ghost use Rattle.runs.specs.Script.{itemsOf, callsOf};
 ghost use Rattle.runs.specs.Script as spec;
 ghost use Rattle.runs.specs.Compared.{comparedOf, laid};
 ghost use Rattle.runs.specs.Ran.{questionWords, ranFrom, madeOf, ranOf};
-ghost use Rattle.runs.specs.Turn.{Puts, First, Leaves, Makes, senderTurn, trainerCall, senderCall};
+ghost use Rattle.runs.specs.Turn.{Puts, First, Leaves, Makes, senderTurn, trainerCall, senderCall, otherItem};
 use sender::Made;
 use sender::Sender;
 use trainer::Trainer;
@@ -34,6 +35,22 @@ fn train(r: State, ws: &[u64], size: usize, out: &mut [u64]) -> State
     let t = r.trainer;
     let sender = r.sender;
     let m = calls::trainer_call(t, ws, size, out, r.at);
+    let trainer = m.trainer;
+    State {
+        trainer,
+        sender,
+        at: m.at,
+    }
+}
+
+// New settings for the trainer.
+fn change(r: State, ws: &[u64], out: &mut [u64]) -> State
+    requires { ⌜ r .at ≤ length (now out) ⌝ }
+    ensures { λ q. ⌜ Makes r (spec.train (plain.change (spec.settingsAt (now (ws .entry)) 1 20))) (now (out .entry)) q (now (out .exit)) ⌝ }
+{
+    let t = r.trainer;
+    let sender = r.sender;
+    let m = calls::change_call(t, ws, out, r.at);
     let trainer = m.trainer;
     State {
         trainer,
@@ -70,6 +87,17 @@ fn look(mut r: State, ws: &[u64], out: &mut [u64]) -> State
     r
 }
 
+// A call of any other code: new settings, or a lookup.
+fn other(r: State, ws: &[u64], out: &mut [u64]) -> State
+    requires { ⌜ r .at ≤ length (now out) ⌝ }
+    ensures { λ q. ⌜ Makes r (otherItem (now (ws .entry))) (now (out .entry)) q (now (out .exit)) ⌝ }
+{
+    if script::word(ws, 0) == 15 {
+        return change(r, ws, out);
+    }
+    look(r, ws, out)
+}
+
 // The call that stands first in the words, of that size.
 fn call(r: State, ws: &[u64], size: usize, out: &mut [u64]) -> State
     requires { ⌜ (r .at ≤ length (now out)) × First (now ws) size ⌝ }
@@ -79,7 +107,7 @@ fn call(r: State, ws: &[u64], size: usize, out: &mut [u64]) -> State
     match code {
         1 | 2 | 3 => train(r, ws, size, out),
         4 | 5 | 6 => react(r, ws, out),
-        _ => look(r, ws, out),
+        _ => other(r, ws, out),
     }
 }
 

@@ -60,29 +60,32 @@ fn action(ws: &[u64], i: usize) -> Action
     Action::new(multiplier, increment, delay)
 }
 
-// The upper ends, which stand after the sender.
-fn ends(ws: &[u64]) -> Point
-    ensures { λ r. ⌜ r ≡ spec.ends (now (ws .entry)) ⌝ }
+// The upper ends from word i on.
+fn ends(ws: &[u64], i: usize) -> Point
+    requires { ⌜ i ≤ 60000 ⌝ }
+    ensures { λ r. ⌜ r ≡ spec.ends (now (ws .entry)) i ⌝ }
 {
-    let ack = float(ws, 43);
-    let send = float(ws, 44);
-    let ratio = float(ws, 45);
+    let ack = float(ws, i);
+    let send = float(ws, i + 1);
+    let ratio = float(ws, i + 2);
     Point::new(ack, send, ratio)
 }
 
-pub(crate) fn settings(ws: &[u64]) -> Settings
-    ensures { λ r. ⌜ r ≡ spec.settings (now (ws .entry)) ⌝ }
+// The settings from word i on, their upper ends from word e on.
+pub(crate) fn settings_at(ws: &[u64], i: usize, e: usize) -> Settings
+    requires { ⌜ (i ≤ 60000) × (e ≤ 60000) ⌝ }
+    ensures { λ r. ⌜ r ≡ spec.settingsAt (now (ws .entry)) i e ⌝ }
 {
-    let rule_splits = number(ws, 0);
-    let optimization_rounds_per_split = number(ws, 1);
-    let action_change_multiplier = number(ws, 2);
-    let drill_down = word(ws, 3) == 1;
-    let min_action = action(ws, 4);
-    let max_action = action(ws, 7);
-    let initial_action_change = action(ws, 10);
-    let max_action_change = action(ws, 13);
-    let default_action = action(ws, 16);
-    let ends = ends(ws);
+    let rule_splits = number(ws, i);
+    let optimization_rounds_per_split = number(ws, i + 1);
+    let action_change_multiplier = number(ws, i + 2);
+    let drill_down = word(ws, i + 3) == 1;
+    let min_action = action(ws, i + 4);
+    let max_action = action(ws, i + 7);
+    let initial_action_change = action(ws, i + 10);
+    let max_action_change = action(ws, i + 13);
+    let default_action = action(ws, i + 16);
+    let ends = ends(ws, e);
     Settings {
         rule_splits,
         optimization_rounds_per_split,
@@ -95,6 +98,13 @@ pub(crate) fn settings(ws: &[u64]) -> Settings
         default_action,
         ends,
     }
+}
+
+// The settings of the start.
+pub(crate) fn settings(ws: &[u64]) -> Settings
+    ensures { λ r. ⌜ r ≡ spec.settings (now (ws .entry)) ⌝ }
+{
+    settings_at(ws, 0, 43)
 }
 
 pub(crate) fn mode(ws: &[u64]) -> RepeatMode
@@ -221,6 +231,7 @@ fn fixed_size(code: u64) -> usize
         2 | 5 => 2,
         4 | 8 => 4,
         6 => 1,
+        15 => 23,
         _ => 0,
     }
 }

@@ -112,13 +112,13 @@ module _ (s : Settings) (t : RuleTree) (h : settingsHold s ≡ true) (g : Sound 
   unfolding untriedIn toBits
   leaf-untried i r l = refl
 
-  stand-one : (i : ℕ) → 1 ≤ i → i ≤ s .«rule_splits» → Held (stand s t 1 i 0)
+  pub stand-one : (i : ℕ) → 1 ≤ i → i ≤ s .«rule_splits» → Held (stand s t 1 i 0)
   stand-one i a b = made (stand s t 1 i 0) h g (phase-is (stand s t 1 i 0) ∙ splitting-from (stand s t 1 i 0) a b refl (stand-idle 1 i 0))
 
-  stand-two : (i : ℕ) → 1 ≤ i → i ≤ s .«rule_splits» → Held (stand s t 2 i 0)
+  pub stand-two : (i : ℕ) → 1 ≤ i → i ≤ s .«rule_splits» → Held (stand s t 2 i 0)
   stand-two i a b = made (stand s t 2 i 0) h g (phase-is (stand s t 2 i 0) ∙ splitting-from (stand s t 2 i 0) a b refl (stand-idle 2 i 0))
 
-  stand-three : (i r : ℕ) → i ≤ s .«rule_splits» → r < s .«optimization_rounds_per_split» → Held (stand s t 3 i r)
+  pub stand-three : (i r : ℕ) → i ≤ s .«rule_splits» → r < s .«optimization_rounds_per_split» → Held (stand s t 3 i r)
   stand-three i r a b =
       made (stand s t 3 i r) h g
       (phase-is (stand s t 3 i r)
@@ -130,7 +130,7 @@ module _ (s : Settings) (t : RuleTree) (h : settingsHold s ≡ true) (g : Sound 
   stand-seven : (i : ℕ) → i ≡ s .«rule_splits» + 1 → Held (stand s t 7 i 0)
   stand-seven i a = made (stand s t 7 i 0) h g (phase-is (stand s t 7 i 0) ∙ ending-from (stand s t 7 i 0) a refl (stand-idle 7 i 0))
 
-  leaf-held : (i r l : ℕ) → i ≤ s .«rule_splits» → r < s .«optimization_rounds_per_split» → leafHoldsIn t l ≡ true → Held (atLeaf s t i r l)
+  pub leaf-held : (i r l : ℕ) → i ≤ s .«rule_splits» → r < s .«optimization_rounds_per_split» → leafHoldsIn t l ≡ true → Held (atLeaf s t i r l)
   leaf-held i r l a b u =
       let x = atLeaf s t i r l in
       made x h g

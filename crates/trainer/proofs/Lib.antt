@@ -9,3 +9,6 @@ pub mod AcceptWays
 pub mod AcceptedFacts
 pub mod Steps
 pub mod Accepting
+pub mod SameEnds
+pub mod ChangeWays
+pub mod Changing

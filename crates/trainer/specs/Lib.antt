@@ -4,4 +4,5 @@ pub mod Axes
 pub mod State
 pub mod Phases
 pub mod Calls
+pub mod Change
 pub mod Fields

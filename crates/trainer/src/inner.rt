@@ -3,6 +3,7 @@ pub mod accepted;
 pub mod ask;
 pub mod axes;
 pub mod begin;
+pub mod changing;
 pub mod counting;
 pub mod leaf;
 pub mod scoring;

@@ -2,6 +2,7 @@
 ghost use mathlib.Core.Path.{_≡_};
 ghost use Rattle.trainer.specs.State.{acceptedOf};
 ghost use Rattle.trainer.specs.Calls.{startOf, questionOf, answerCountsOf, answerScoreOf};
+ghost use Rattle.trainer.specs.Change.{changeOf};
 use crate::settings::Settings;
 use remy::action::Action;
 use rule_tree::RuleTree;
@@ -110,6 +111,35 @@ impl Trainer {
             }
             return Answered {
                 refused: refusal::NOT_ASKED,
+                trainer: self,
+            };
+        }
+        Answered {
+            refused: refusal::NOT_GROWN,
+            trainer: self,
+        }
+    }
+
+    // New settings with the same upper ends: the tree, the stage and the round stay.
+    pub fn change_settings(self, s: Settings) -> Answered
+        ensures { λ r. ⌜ r ≡ changeOf self s ⌝ }
+    {
+        if inner::accepted::accepted(self) {
+            if s.hold() {
+                if inner::changing::settings_fit(self, s) {
+                    let trainer = inner::changing::changed(self, s);
+                    return Answered {
+                        refused: 0,
+                        trainer,
+                    };
+                }
+                return Answered {
+                    refused: refusal::UNFIT_SETTINGS,
+                    trainer: self,
+                };
+            }
+            return Answered {
+                refused: refusal::BAD_SETTINGS,
                 trainer: self,
             };
         }

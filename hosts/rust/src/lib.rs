@@ -271,6 +271,18 @@ impl Trainer {
         Ok(())
     }
 
+    /// New settings with the same upper ends: its tree, stage and round stay, and where it asks for a score it asks for
+    /// that of the leaf's own action again. The new default action changes no rule of the tree.
+    pub fn change_settings(&mut self, settings: &Settings) -> Result<(), Refusal> {
+        self.change_settings_from(&settings.to_bytes())
+    }
+
+    /// The same from the bytes of settings, as a record has them.
+    pub fn change_settings_from(&mut self, settings: &[u8]) -> Result<(), Refusal> {
+        self.record = written(RECORD_MOST, |out| raw::change_settings(&self.record, settings, out))?;
+        Ok(())
+    }
+
     /// The candidates of an action by its own settings.
     pub fn candidates(&self, action: Action) -> Result<Vec<Action>, Refusal> {
         candidates(&self.record[5..142], action)

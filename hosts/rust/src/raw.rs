@@ -19,6 +19,9 @@ mod c {
         ) -> u64;
         pub fn knellstone_equal(a: *const u8, a_len: usize, b: *const u8, b_len: usize) -> u64;
         pub fn knellstone_undo_split(record: *const u8, record_len: usize, out: *mut u8, out_len: usize) -> u64;
+        pub fn knellstone_change_settings(
+            record: *const u8, record_len: usize, settings: *const u8, settings_len: usize, out: *mut u8, out_len: usize,
+        ) -> u64;
         pub fn knellstone_lookup(
             record: *const u8, record_len: usize, points: *const u8, points_len: usize, out: *mut u8, out_len: usize,
         ) -> u64;
@@ -81,6 +84,14 @@ pub fn equal(a: &[u8], b: &[u8]) -> u64 {
 
 pub fn undo_split(record: &[u8], out: &mut [u8]) -> u64 {
     unsafe { c::knellstone_undo_split(record.as_ptr(), record.len(), out.as_mut_ptr(), out.len()) }
+}
+
+pub fn change_settings(record: &[u8], settings: &[u8], out: &mut [u8]) -> u64 {
+    unsafe {
+        c::knellstone_change_settings(
+            record.as_ptr(), record.len(), settings.as_ptr(), settings.len(), out.as_mut_ptr(), out.len(),
+        )
+    }
 }
 
 pub fn lookup(record: &[u8], points: &[u8], out: &mut [u8]) -> u64 {

@@ -263,3 +263,31 @@ fn rows_of_the_even_tree() {
     assert_eq!(row(600.0, 0.0, 0.0), None);
     assert_eq!(row(0.0, f64::NAN, 0.0), None);
 }
+
+#[test]
+fn new_settings() {
+    let settings =
+        Settings { rule_splits: 2, optimization_rounds_per_split: 1, drill_down: false, ..Settings::default() };
+    let mut trainer = Trainer::start(&settings).unwrap();
+    trainer.answer_counts(&[5]).unwrap();
+    let Question::Score { leaf, action, .. } = trainer.question() else { panic!("a score is asked for") };
+    trainer.answer_score(1.0).unwrap();
+    let trying = trainer.clone();
+
+    let bad = Settings { action_change_multiplier: 1, ends: [601.0, 600.0, 1000.0], ..settings.clone() };
+    assert_eq!(trainer.change_settings(&bad), Err(Refusal(2)), "2 before 27");
+    let end = Settings { ends: [600.0, 600.0, 999.0], ..settings.clone() };
+    assert_eq!(trainer.change_settings(&end), Err(Refusal(27)));
+    let rounds = Settings { optimization_rounds_per_split: 0, ..settings.clone() };
+    assert_eq!(trainer.change_settings(&rounds), Err(Refusal(27)));
+    assert_eq!(trainer.change_settings_from(&settings.to_bytes()[..113]), Err(Refusal(2)));
+    assert_eq!(trainer, trying);
+
+    // The candidates are dropped, and the new default action changes no rule.
+    let other = Settings { default_action: Action::new(0.5, 3, 0.001), rule_splits: 0, ..settings };
+    trainer.change_settings(&other).unwrap();
+    assert!(matches!(trainer.question(), Question::Score { leaf: l, action: a, .. } if l == leaf && a == action));
+    assert!(trainer.same_tree(&trying));
+    assert_eq!(trainer.record()[5..142], other.to_bytes());
+    assert_eq!(Trainer::load(trainer.record()), Ok(trainer));
+}

@@ -181,6 +181,10 @@ fn call(script: &mut Script, trainer: &mut Trainer, sender: &mut Sender) -> Resu
             let same = |other: Trainer| format!("equal {}", u8::from(trainer.same_tree(&other)));
             Gives::Lines(vec![Trainer::load(script.take(n)?).map_or_else(refused, same)])
         }
+        15 => {
+            let r = trainer.change_settings_from(script.take(137)?);
+            answered(trainer, r)
+        }
         7 => script.take(8).map(|_| Gives::Passes)?,
         10 | 22 => script.take(24).map(|_| Gives::Passes)?,
         12 => Gives::Tree(trainer.clone()),

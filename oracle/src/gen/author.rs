@@ -1,7 +1,7 @@
 //! Writes calls and plays them on 01's plain trainer and sender, so that the next call fits.
 
 use super::{
-    values::{any_float, calm_header, edge_float, near_action, small_settings, step, valid_action},
+    values::{any_float, calm_header, edge_float, near_action, small_settings, step, valid_action, vary_settings},
     Dice,
 };
 use crate::{
@@ -58,6 +58,11 @@ impl Author {
             }
             Call::Load(record) => {
                 if let Ok(trainer) = Trainer::load(&record) {
+                    self.trainer = trainer;
+                }
+            }
+            Call::ChangeSettings(settings, drill) => {
+                if let Ok(trainer) = self.trainer.change(&settings, drill) {
                     self.trainer = trainer;
                 }
             }
@@ -194,6 +199,38 @@ impl Author {
             }
         }
         self.call(Call::Counts(counts));
+    }
+
+    /// New settings: mostly ones that fit, else with one cause of 27, or a limit or a drill byte that is bad.
+    pub fn change_settings(&mut self) {
+        let (stage, round) = (self.trainer.stage, self.trainer.round);
+        let old = self.trainer.settings.clone();
+        let dice = &mut self.dice;
+        let mut settings = if dice.one_in(2) { old.clone() } else { small_settings(dice, 2) };
+        settings.ends = old.ends;
+        settings.rule_splits = settings.rule_splits.max(stage).min(64);
+        settings.rounds = settings.rounds.max(round + 1);
+        if dice.one_in(2) {
+            settings.default = valid_action(dice);
+        }
+        let mut drill = u8::from(settings.drill);
+        match dice.below(12) {
+            0 => {
+                let axis = dice.below(3);
+                settings.ends[axis] = step(settings.ends[axis], dice);
+            }
+            1 => settings.rule_splits = dice.pick(&[stage.saturating_sub(1), stage, stage + 1]),
+            2 => settings.rounds = dice.pick(&[round.saturating_sub(1), round, round + 1]),
+            3 => settings.rounds = 0,
+            4 => vary_settings(&mut settings, dice),
+            5 => drill = dice.pick(&[2, 255]),
+            6 => {
+                settings.ends = settings.ends.map(|end| step(end, dice));
+                settings.multiplier = dice.pick(&[1, 17]);
+            }
+            _ => {}
+        }
+        self.call(Call::ChangeSettings(settings, drill));
     }
 
     pub fn finish(&mut self, answers: usize, asides: usize) {

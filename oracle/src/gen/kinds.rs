@@ -411,7 +411,7 @@ pub fn limits(dice: Dice) -> Vec<u8> {
 pub fn cut(mut dice: Dice) -> Vec<u8> {
     let others: Vec<_> = KINDS
         .iter()
-        .filter(|(name, _)| !["cut", "undo", "ends", "apply", "lists", "even"].contains(name))
+        .filter(|(name, _)| !["cut", "undo", "ends", "apply", "lists", "even", "change"].contains(name))
         .collect();
     let (_, author) = others[dice.below(others.len())];
     let mut script = author(Dice(dice.next()));
@@ -535,6 +535,30 @@ pub fn ends(mut dice: Dice) -> Vec<u8> {
             }
             11 => author.aside(),
             _ => author.good_answer(),
+        }
+    }
+    author.done()
+}
+
+/// New settings in every phase, taken and refused, with training and reloads after them.
+pub fn change(dice: Dice) -> Vec<u8> {
+    let mut author = Author::small(dice);
+    for _ in 0..author.dice.within(4, 30) {
+        match author.dice.below(12) {
+            0 => {
+                let splits = author.some_splits();
+                author.load_crafted(splits);
+            }
+            1 => author.call(Call::Reload(u16::MAX)),
+            2 => author.aside(),
+            3 if !author.saved.is_empty() => {
+                let at = author.dice.below(author.saved.len());
+                let record = author.saved[at].clone();
+                author.call(Call::Load(record));
+            }
+            4..=7 => author.change_settings(),
+            8 => author.bad_answer(),
+            _ => author.finish(6, 0),
         }
     }
     author.done()

@@ -26,6 +26,7 @@ pub const KINDS: &[(&str, fn(Dice) -> Vec<u8>)] = &[
     ("apply", kinds::apply),
     ("lists", kinds::lists),
     ("even", kinds::even),
+    ("change", kinds::change),
 ];
 
 /// None where there is no such kind.

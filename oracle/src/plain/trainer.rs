@@ -102,6 +102,28 @@ impl Trainer {
         }
     }
 
+    /// New settings: 2, then 27. Tree, stage and round stay; in phases 4 and 5 the candidates are dropped.
+    pub fn change(&self, settings: &Settings, drill: u8) -> Result<Trainer, Refused> {
+        if drill > 1 {
+            return Err(2);
+        }
+        settings.check()?;
+        let phase = self.phase.number();
+        let unfit = settings.ends != self.settings.ends
+            || self.stage > settings.rule_splits
+            || phase == 6
+            || phase == 7
+            || ((3..=5).contains(&phase) && self.round >= settings.rounds);
+        if unfit {
+            return Err(27);
+        }
+        let phase = match &self.phase {
+            Phase::Own { leaf } | Phase::Candidates { leaf, .. } => Phase::Own { leaf: *leaf },
+            other => other.clone(),
+        };
+        Ok(Trainer { settings: settings.clone(), phase, ..self.clone() })
+    }
+
     /// 21, then 4, then 20. A refusal changes nothing.
     pub fn answer(&mut self, answer: &Answer) -> Result<Vec<Change>, Refused> {
         match (&self.phase, answer) {

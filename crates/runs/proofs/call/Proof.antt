@@ -15,8 +15,8 @@ train-requires c κs = let p = c .before .before .before .before .before .before
 react-requires : tie.Need-react-requires
 react-requires c κs = c .before .before .before .before .before .before .before .pre .0
 
-look-requires : tie.Need-look-requires
-look-requires c κs = c .before .before .before .before .before .pre .0
+other-requires : tie.Need-other-requires
+other-requires c κs = c .before .before .before .before .before .pre .0
 
 same-length : tie.Need-same-length
 same-length c = c .before .before .train .kept .1 .1 .1 .0
@@ -31,10 +31,10 @@ returns-2 : tie.Need-returns-2
 returns-2 c = law.by-sender (c .before .before .before .before .before .before .before .before .before .before .args .r) (c .before .before .before .before .before .before .before .before .before .before .args .out .now) _ _ (c .before .before .before .before .before .before .before .before .before .before .args .ws .now) _ (c .before .before .before .before .before .before .before .word .ensures) (c .before .before .before .before .before .if2 .left) (c .before .before .before .before .if3 .taken) (c .before .before .react .ensures)
 
 same-length-3 : tie.Need-same-length-3
-same-length-3 c = c .before .before .look .kept .1 .1 .0
+same-length-3 c = c .before .before .other .kept .1 .1 .0
 
 returns-3 : tie.Need-returns-3
-returns-3 c = law.of-item (c .before .before .before .before .before .before .before .before .args .r) (c .before .before .before .before .before .before .before .before .args .out .now) _ _ (⊎-elim (λ w. read.low-lookup (c .before .before .before .before .before .before .before .before .args .ws .now) _ (c .before .before .before .before .before .word .ensures) (w .taken)) (λ w. read.high-lookup (c .before .before .before .before .before .before .before .before .args .ws .now) _ (c .before .before .before .before .before .word .ensures) (w .2 .left)) (c .before .before .before .before .if1 .came)) (c .before .before .look .ensures)
+returns-3 c = law.of-item (c .before .before .before .before .before .before .before .before .args .r) (c .before .before .before .before .before .before .before .before .args .out .now) _ _ (⊎-elim (λ w. read.low-other (c .before .before .before .before .before .before .before .before .args .ws .now) _ (c .before .before .before .before .before .word .ensures) (w .taken)) (λ w. read.high-other (c .before .before .before .before .before .before .before .before .args .ws .now) _ (c .before .before .before .before .before .word .ensures) (w .2 .left)) (c .before .before .before .before .if1 .came)) (c .before .before .other .ensures)
 
 pub call-spec : {M : Type 1} → statement M
 call-spec =
@@ -43,7 +43,7 @@ call-spec =
     word-requires
     train-requires
     react-requires
-    look-requires
+    other-requires
     same-length
     returns
     same-length-2

@@ -18,7 +18,13 @@ unfolding fixedSize
 returns-3 c = law.fixed-is _ 6 (c .match .keys3)
 
 returns-4 : tie.Need-returns-4
-returns-4 c = let m = c .match .rest in law.fixed-none _ (λ e. m .0 .0 .1 (inl e)) (λ e. m .0 .1 (inl e)) (λ e. m .0 .0 .1 (inr e)) (m .1) (λ e. m .0 .1 (inr e))
+unfolding fixedSize
+returns-4 c = law.fixed-is _ 15 (c .match .keys4)
+
+returns-5 : tie.Need-returns-5
+returns-5 c =
+    let m = c .match .rest in
+    law.fixed-none _ (λ e. m .0 .0 .0 .1 (inl e)) (λ e. m .0 .0 .1 (inl e)) (λ e. m .0 .0 .0 .1 (inr e)) (m .0 .1) (λ e. m .0 .0 .1 (inr e)) (m .1)
 
 pub fixed-size-spec : {M : Type 1} → statement M
-fixed-size-spec = tie.close (tie.spec returns returns-2 returns-3 returns-4)
+fixed-size-spec = tie.close (tie.spec returns returns-2 returns-3 returns-4 returns-5)
