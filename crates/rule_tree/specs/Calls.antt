@@ -16,6 +16,7 @@ use Rattle.rule_tree.specs.declared.Changed.{Changed}
 use Rattle.rule_tree.specs.declared.Looked.{Looked}
 use Rattle.rule_tree.specs.declared.Looked.the-variants.{Found}
 use Rattle.rule_tree.specs.declared.Looked.the-variants as looked
+use Rattle.rule_tree.specs.declared.Lookup.{Lookup}
 use Rattle.rule_tree.specs.declared.Domain.{Domain}
 use Rattle.rule_tree.specs.declared.Domain.the-variants as domain
 use Rattle.rule_tree.specs.declared.Tallied.{Tallied}
@@ -27,10 +28,10 @@ use Rattle.rule_tree.specs.declared.Number.the-variants as number
 use Rattle.rule_tree.specs.declared.Compared.{Compared}
 use Rattle.rule_tree.specs.declared.Compared.the-variants as compared
 use Rattle.rule_tree.specs.Lists.{countBelow, total}
-use Rattle.rule_tree.specs.Nodes.{nodeAt, isLeaf, nodeCount, noAction, slots, mostSplits, actionIn}
+use Rattle.rule_tree.specs.Nodes.{nodeAt, childrenOf, isLeaf, nodeCount, noAction, slots, mostSplits, actionIn}
 use Rattle.rule_tree.specs.Grown.{endsHold, grownOf}
 use Rattle.rule_tree.specs.Cubes.{cubeOf}
-use Rattle.rule_tree.specs.Walk.{leafOf}
+use Rattle.rule_tree.specs.Walk.{walkOf, leafOf}
 use Rattle.rule_tree.specs.Counts.{limit, countsHold, usedIn, mostUsed}
 use Rattle.rule_tree.specs.Change.{freshTree, withAction, withMark, withoutMarks, splitAt, undone}
 use Rattle.rule_tree.specs.Equal.{treesEqual}
@@ -101,9 +102,21 @@ unfoldable pub foundIn : RuleTree → Point → Looked
 foundIn t p =
     cond (containsOf (rootOf (t .ends)) p) (Found (actionIn (nodeAt (t .nodes) (leafOf t p)))) looked.Nothing
 
--- lookup
+-- what lookup finds
 unfoldable pub lookupOf : RuleTree → Point → Looked
 lookupOf t p = guarded (grownOrder t) looked.Refused (foundIn t p)
+
+-- 02, wish 11: "Lookup also returns the number of cubes it tested": "the root, then children in order up to the one that holds the point"; "An outside point counts 1"
+unfoldable pub testedIn : RuleTree → Point → ℕ
+testedIn t p =
+    cond (containsOf (rootOf (t .ends)) p) (walkOf (childrenOf (t .nodes)) (rootOf (t .ends)) p .tested) 1
+
+unfoldable pub openedIn : RuleTree → Point → Lookup
+openedIn t p = record { found = foundIn t p; tested = testedIn t p }
+
+-- lookup with the number of cubes tested; a refusal tests none
+unfoldable pub openedOf : RuleTree → Point → Lookup
+openedOf t p = guarded (grownOrder t) (λ k. record { found = looked.Refused k; tested = 0 }) (openedIn t p)
 
 -- lookup with one leaf's action replaced
 unfoldable pub replacedOf : AugmentedRuleTree → Point → Looked

@@ -3,7 +3,7 @@ ghost use mathlib.Core.Path.{_≡_};
 ghost use mathlib.Core.Bool.{false, true};
 ghost use Rattle.rule_tree.specs.Nodes.{actionIn, nodeHolding};
 ghost use Rattle.rule_tree.specs.Grown.{grownOf};
-ghost use Rattle.rule_tree.specs.Calls.{newOf, domainOf, lookupOf, replacedOf, tallyOf, countedIn, setOf, markOf, clearOf, splitOf, undoOf, parentsOf, usedOf, mostUsedOf, equalOf};
+ghost use Rattle.rule_tree.specs.Calls.{newOf, domainOf, openedOf, replacedOf, tallyOf, countedIn, setOf, markOf, clearOf, splitOf, undoOf, parentsOf, usedOf, mostUsedOf, equalOf};
 use quantities::TimeSpan;
 use remy::action::Action;
 use remy::cube::Cube;
@@ -75,6 +75,12 @@ pub enum Looked {
     Found(Action),
     Nothing,
     Refused(u32),
+}
+
+// What a lookup finds, and the number of cubes that it tested.
+pub struct Lookup {
+    pub found: Looked,
+    pub tested: u32,
 }
 
 pub enum Domain {
@@ -175,14 +181,17 @@ impl RuleTree {
         Domain::Refused(refusal::NOT_GROWN)
     }
 
-    // The action of the leaf that holds p.
-    pub fn action(self, p: Point) -> Looked
-        ensures { λ r. ⌜ r ≡ lookupOf self p ⌝ }
+    // The action of the leaf that holds p, and how many cubes were tested: the root, then children in order up to the one that holds p.
+    pub fn action(self, p: Point) -> Lookup
+        ensures { λ r. ⌜ r ≡ openedOf self p ⌝ }
     {
         if inner::links::grown(self) {
-            return inner::walk::looked(self, p);
+            return inner::walk::opened(self, p);
         }
-        Looked::Refused(refusal::NOT_GROWN)
+        Lookup {
+            found: Looked::Refused(refusal::NOT_GROWN),
+            tested: 0,
+        }
     }
 
     // One more for the leaf that holds p.

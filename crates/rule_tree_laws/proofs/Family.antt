@@ -65,7 +65,7 @@ module _ (cs : List ℕ) (s : ℕ) (h : linkedOf cs s ≡ true) (n : length cs �
       ∙ owner-is 513 cs (8 * k + 1) i b e (λ j m q. o .only j (omega arith) q ∙ sym (o .only i (omega arith) e))
 
   -- the node of a split comes before the nodes that the split added
-  split-low : Low (splitNodes cs)
+  pub split-low : Low (splitNodes cs)
   split-low k l =
       let e : getD (splitNodes cs) k 0 ≡ ownerBelow 513 cs (8 * k + 1) = getD-tabulate 64 k (λ m. ownerBelow 513 cs (8 * m + 1)) 0 l in
       ⊎-elim (λ (z : ownerBelow 513 cs (8 * k + 1) ≡ 0). omega arith)

@@ -1,5 +1,6 @@
 pub mod Family
 pub mod Partition
+pub mod Opened
 pub mod SplitLinks
 pub mod Splitting
 pub mod Sound

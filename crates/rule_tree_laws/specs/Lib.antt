@@ -1,2 +1,3 @@
 pub mod Growth
 pub mod Leaves
+pub mod Opened

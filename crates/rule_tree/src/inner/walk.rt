@@ -3,13 +3,14 @@ ghost use mathlib.Core.Path.{_≡_};
 ghost use mathlib.Core.Bool.{true};
 ghost use Prim.Native.Nat.{_<_};
 ghost use Rattle.remy.specs.Cube.{rootOf, containsOf};
-ghost use Rattle.rule_tree.specs.Nodes.{nodeCount};
+ghost use Rattle.rule_tree.specs.Nodes.{nodeCount, childrenOf};
 ghost use Rattle.rule_tree.specs.Grown.{grownOf};
-ghost use Rattle.rule_tree.specs.Walk.{walkOf, Walkable, leafOf};
+ghost use Rattle.rule_tree.specs.Walk.{walkOf, Walkable};
 ghost use Rattle.rule_tree.specs.Counts.{countsHold};
 ghost use Rattle.rule_tree.specs.Change.{withAction};
-ghost use Rattle.rule_tree.specs.Calls.{foundIn, leafIn, tallyOf, countedIn};
+ghost use Rattle.rule_tree.specs.Calls.{foundIn, openedIn, leafIn, tallyOf, countedIn};
 use crate::Looked;
+use crate::Lookup;
 use crate::MOST_COUNTED;
 use crate::NODES;
 use crate::RuleTree;
@@ -45,32 +46,39 @@ pub fn walk(children: &[u16; NODES], root: Cube, p: Point) -> Reached
     Reached { node: i, tested }
 }
 
-// The leaf that a point of the box reaches, in a tree that was tested.
-fn leaf_at(t: RuleTree, root: Cube, p: Point) -> u16
+// The leaf that a point of the box reaches and the cubes tested on the way, in a tree that was tested.
+fn reach(t: RuleTree, root: Cube, p: Point) -> Reached
     requires { ⌜ (grownOf t ≡ true) × (root ≡ rootOf (t .ends)) × (containsOf root p ≡ true) ⌝ }
-    ensures { λ r. ⌜ (r ≡ leafOf t p) × (r < nodeCount (t .splits)) ⌝ }
+    ensures { λ r. ⌜ (r ≡ walkOf (childrenOf (t .nodes)) (rootOf (t .ends)) p) × (r .node < nodeCount (t .splits)) ⌝ }
 {
     let children = links::children_of(t);
-    walk(&children, root, p).node
+    walk(&children, root, p)
 }
 
-// What p finds in a tree that was tested.
-pub fn looked(t: RuleTree, p: Point) -> Looked
+// What p finds in a tree that was tested, and how many cubes are tested for it.
+pub fn opened(t: RuleTree, p: Point) -> Lookup
     requires { ⌜ grownOf t ≡ true ⌝ }
-    ensures { λ r. ⌜ r ≡ foundIn t p ⌝ }
+    ensures { λ r. ⌜ r ≡ openedIn t p ⌝ }
 {
     let e = t.ends;
     let root = Cube::root(e);
     if root.contains(p) {
-        let i = leaf_at(t, root, p) as usize;
+        let reached = reach(t, root, p);
+        let i = reached.node as usize;
         let x = t.nodes[i];
         let a = x.action();
-        return Looked::Found(a);
+        return Lookup {
+            found: Looked::Found(a),
+            tested: reached.tested,
+        };
     }
-    Looked::Nothing
+    Lookup {
+        found: Looked::Nothing,
+        tested: 1,
+    }
 }
 
-// The same with one leaf's action replaced.
+// What p finds with one leaf's action replaced.
 pub fn looked_replaced(t: RuleTree, leaf: u16, action: Action, p: Point) -> Looked
     requires { ⌜ (grownOf t ≡ true) × (leafIn t leaf ≡ true) ⌝ }
     ensures { λ r. ⌜ r ≡ foundIn (withAction t leaf action) p ⌝ }
@@ -78,7 +86,7 @@ pub fn looked_replaced(t: RuleTree, leaf: u16, action: Action, p: Point) -> Look
     let e = t.ends;
     let root = Cube::root(e);
     if root.contains(p) {
-        let node = leaf_at(t, root, p);
+        let node = reach(t, root, p).node;
         if node == leaf {
             return Looked::Found(action);
         }
@@ -99,7 +107,7 @@ pub fn tallied(t: RuleTree, counts: &mut [u64], p: Point) -> Tallied
     let root = Cube::root(e);
     if root.contains(p) {
         if counts::capped_total(counts) < MOST_COUNTED {
-            let node = leaf_at(t, root, p);
+            let node = reach(t, root, p).node;
             let i = node as usize;
             counts[i] = counts[i] + 1;
             return Tallied::Counted(node);

@@ -1,6 +1,6 @@
--- `RuleTree::action` tests the tree, 10, and looks the point up. Assumes nothing.
+-- `RuleTree::action` tests the tree, 10, and looks the point up, with the cubes counted. Assumes nothing.
 use mathlib.Core.Path.{refl}
-use Rattle.rule_tree.specs.Calls.{lookupOf}
+use Rattle.rule_tree.specs.Calls.{openedOf}
 use Rattle.rule_tree.proofs.Ways.{via-true, via-false, was-true}
 use borrow.Author.Needs.{needs}
 use Rattle.rule_tree.proofs.RuleTree.action.Statement.{statement}
@@ -9,16 +9,16 @@ use Rattle.rule_tree.proofs.RuleTree.action.Tie as tie
 grown-requires : tie.Need-grown-requires
 grown-requires c κs = search needs
 
-looked-requires : tie.Need-looked-requires
-looked-requires c κs = was-true (c .before .grown .ensures) (c .if1 .taken)
+opened-requires : tie.Need-opened-requires
+opened-requires c κs = was-true (c .before .grown .ensures) (c .if1 .taken)
 
 returns : tie.Need-returns
-unfolding lookupOf
-returns c = (via-true _ (c .before .before .grown .ensures) (c .before .if1 .taken) (c .looked .ensures))
+unfolding openedOf
+returns c = (via-true _ (c .before .before .grown .ensures) (c .before .if1 .taken) (c .opened .ensures))
 
 returns-2 : tie.Need-returns-2
-unfolding lookupOf
+unfolding openedOf
 returns-2 c = (via-false _ (c .before .grown .ensures) (c .if1 .left) refl)
 
 pub action-spec : {M : Type 1} → statement M
-action-spec = tie.close (tie.spec grown-requires looked-requires returns returns-2)
+action-spec = tie.close (tie.spec grown-requires opened-requires returns returns-2)

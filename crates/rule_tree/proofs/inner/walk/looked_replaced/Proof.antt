@@ -19,8 +19,8 @@ root-requires c κs = search needs
 contains-requires : tie.Need-contains-requires
 contains-requires c κs = search needs
 
-leaf-at-requires : tie.Need-leaf-at-requires
-leaf-at-requires c κs = (c .before .before .before .before .pre .0, c .before .before .root .ensures, sym (c .before .contains .ensures) ∙ c .if1 .taken)
+reach-requires : tie.Need-reach-requires
+reach-requires c κs = (c .before .before .before .before .pre .0, c .before .before .root .ensures, sym (c .before .contains .ensures) ∙ c .if1 .taken)
 
 returns : tie.Need-returns
 returns c =
@@ -29,8 +29,8 @@ returns c =
     law.replaced-same (s .args .t1) (s .args .leaf) (s .args .action) (s .args .p) _
     (law.contained (s .args .t1) (s .args .p) _ (l .before .before .contains .result) _ (l .before .before .before .root .ensures) (l .before .before .contains .ensures) (l .before .if1 .taken))
     refl
-    (let b = law.leaf-slot (s .args .t1) (s .pre .0) _ (l .leaf-at .ensures .1) in let n = nodes-513 s in let e = c .if2 .taken in omega arith)
-    (sym (l .leaf-at .ensures .0) ∙ c .if2 .taken)
+    (let b = law.leaf-slot (s .args .t1) (s .pre .0) _ (l .reach .ensures .1) in let n = nodes-513 s in let e = c .if2 .taken in omega arith)
+    (sym (law.reached-leaf (s .args .t1) (s .args .p) _ (l .reach .ensures .0)) ∙ c .if2 .taken)
 
 cast-i : tie.Need-cast-i
 cast-i c = search needs
@@ -41,7 +41,7 @@ mul-x c = search needs
 element-copy-out-x : tie.Need-element-copy-out-x
 element-copy-out-x c =
     let s = c .before .before .before .before .before .before in
-    law.leaf-slot (s .args .t1) (s .pre .0) _ (c .before .leaf-at .ensures .1)
+    law.leaf-slot (s .args .t1) (s .pre .0) _ (c .before .reach .ensures .1)
 
 action-requires : tie.Need-action-requires
 action-requires c κs = search needs
@@ -51,11 +51,11 @@ returns-2 c =
     let l = c .before .before .before in
     let s = l .before .before .before .before .before in
     ap Found (c .action .ensures)
-    ∙ ap (λ (n : ℕ). Found (actionIn (nodeAt (s .args .t1 .nodes) n))) (l .leaf-at .ensures .0)
+    ∙ ap (λ (n : ℕ). Found (actionIn (nodeAt (s .args .t1 .nodes) n))) (law.reached-leaf (s .args .t1) (s .args .p) _ (l .reach .ensures .0))
     ∙ law.replaced-other (s .args .t1) (s .args .leaf) (s .args .action) (s .args .p) _
     (law.contained (s .args .t1) (s .args .p) _ (l .before .before .contains .result) _ (l .before .before .before .root .ensures) (l .before .before .contains .ensures) (l .before .if1 .taken))
     refl
-    (λ e. c .before .before .if2 .left (l .leaf-at .ensures .0 ∙ e))
+    (λ e. c .before .before .if2 .left (law.reached-leaf (s .args .t1) (s .args .p) _ (l .reach .ensures .0) ∙ e))
 
 returns-3 : tie.Need-returns-3
 returns-3 c =
@@ -65,4 +65,4 @@ returns-3 c =
 pub looked-replaced-spec : {M : Type 1} → statement M
 looked-replaced-spec =
     tie.close
-    (tie.spec root-requires contains-requires leaf-at-requires returns cast-i mul-x element-copy-out-x action-requires returns-2 returns-3)
+    (tie.spec root-requires contains-requires reach-requires returns cast-i mul-x element-copy-out-x action-requires returns-2 returns-3)

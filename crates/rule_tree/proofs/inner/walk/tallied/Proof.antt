@@ -10,11 +10,11 @@ use Rattle.rule_tree.proofs.Looking as law
 use Rattle.rule_tree.proofs.inner.walk.tallied.Statement.{statement}
 use Rattle.rule_tree.proofs.inner.walk.tallied.Tie as tie
 
-below : (c : tie.After-leaf-at) → c .leaf-at .result < length (c .before .before .before .before .before .before .before .before .before .args .counts .now)
+below : (c : tie.After-reach) → c .reach .result .node < length (c .before .before .before .before .before .before .before .before .before .args .counts .now)
 below c =
     let s = c .before .before .before .before .before .before .before .before .before in
     let n = counts-accepted (s .args .t) (s .args .counts .now) (s .pre .1) .one-a-node in
-    let l = c .leaf-at .ensures .1 in
+    let l = c .reach .ensures .1 in
     omega arith
 
 root-requires : tie.Need-root-requires
@@ -26,8 +26,8 @@ contains-requires c κs = search needs
 capped-total-requires : tie.Need-capped-total-requires
 capped-total-requires c κs = search needs
 
-leaf-at-requires : tie.Need-leaf-at-requires
-leaf-at-requires c κs =
+reach-requires : tie.Need-reach-requires
+reach-requires c κs =
     let t = c .before .before .before in
     (c .before .before .before .before .before .before .before .before .pre .0, t .before .before .root .ensures, sym (t .before .contains .ensures) ∙ t .if1 .taken)
 
@@ -44,7 +44,7 @@ add-counts : tie.Need-add-counts
 add-counts c =
     let t = c .before .before in
     let s = t .before .before .before .before .before .before .before .before in
-    record { fits = law.count-small (s .args .counts .now) (c .before .leaf-at .result) (below (c .before)) (let e = t .before .capped-total .ensures in let m = t .if2 .taken in omega arith) }
+    record { fits = law.count-small (s .args .counts .now) (c .before .reach .result .node) (below (c .before)) (let e = t .before .capped-total .ensures in let m = t .if2 .taken in omega arith) }
 
 mul-counts-2 : tie.Need-mul-counts-2
 mul-counts-2 c = search needs
@@ -62,8 +62,8 @@ returns c =
     let b = t .before .before .before in
     let s = t .before .before .before .before .before .before .before .before in
     let e = law.tally-counted (s .args .t) (s .args .counts .now) (s .args .p) (s .pre .0) (s .pre .1) (law.contained (s .args .t) (s .args .p) _ (b .before .contains .result) true (b .before .before .root .ensures) (b .before .contains .ensures) (b .if1 .taken))
-    (t .before .capped-total .result) (t .before .capped-total .ensures) (t .if2 .taken) (l .leaf-at .result) (l .leaf-at .ensures .0) in
-    (e, law.counted-leaf (s .args .counts .now) _ (l .leaf-at .result) e)
+    (t .before .capped-total .result) (t .before .capped-total .ensures) (t .if2 .taken) (l .reach .result .node) (law.reached-leaf (s .args .t) (s .args .p) _ (l .reach .ensures .0)) in
+    (e, law.counted-leaf (s .args .counts .now) _ (l .reach .result .node) e)
 
 same-length-2 : tie.Need-same-length-2
 same-length-2 c = search needs
@@ -89,7 +89,7 @@ tallied-spec =
     root-requires
     contains-requires
     capped-total-requires
-    leaf-at-requires
+    reach-requires
     cast-i
     mul-counts
     slice-read-counts
