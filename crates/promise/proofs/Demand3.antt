@@ -29,10 +29,10 @@ module _ (s : Settings) (h : settingsHold s ≡ true) (f : FitSettings s) (cs : 
   ends-alike ds d = ap (λ (t : Trainer). endOf t ds) (starts-alike s h) ∙ end-embeds (start s) ds (start-valid s h (point-fits (f .ends))) (start-fits s h f) d
 
   -- each tree on the way is the one that the plain trainer's stands for
-  way-valid : (k : ℕ) → ValidTree (plainTreeAfter s cs k)
+  pub way-valid : (k : ℕ) → ValidTree (plainTreeAfter s cs k)
   way-valid k = end-valid (start s) (take k cs) (start-valid s h (point-fits (f .ends))) (every-take FitCall k cs c) .tree
 
-  way-alike : (k : ℕ) → treeAfter s cs k ≡ embedTree (plainTreeAfter s cs k)
+  pub way-alike : (k : ℕ) → treeAfter s cs k ≡ embedTree (plainTreeAfter s cs k)
   way-alike k =
       let st = plainEnd (start s) (take k cs) in
       ap (λ (t : Trainer). t .tree) (ends-alike (take k cs) (every-take FitCall k cs c))

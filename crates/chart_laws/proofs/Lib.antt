@@ -1,0 +1,9 @@
+pub mod Quotient
+pub mod Bounded
+pub mod Ends
+pub mod Points
+pub mod Steps
+pub mod Taking
+pub mod Calls
+pub mod Settings
+pub mod OnTheWay
