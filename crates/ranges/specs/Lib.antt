@@ -1,0 +1,3 @@
+pub mod Ranges
+pub mod Cubes
+pub mod Reached
