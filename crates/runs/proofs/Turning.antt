@@ -13,8 +13,9 @@ use lib.Ieee.{Float}
 use Rattle.remy.specs.declared.point.Point.{Point}
 use Rattle.remy.specs.Cube.{pointOf}
 use Rattle.rule_tree.specs.declared.RuleTree.{RuleTree}
-use Rattle.rule_tree.specs.declared.Looked.{Looked}
-use Rattle.rule_tree.specs.Calls.{lookupOf}
+use Rattle.rule_tree.specs.declared.Lookup.{Lookup}
+use Rattle.rule_tree.specs.Calls.{lookupOf, openedOf}
+use Rattle.rule_tree.proofs.Looking.{opened-found}
 use Rattle.trainer.specs.declared.Trainer.{Trainer}
 use Rattle.trainer.specs.declared.Answered.{Answered}
 use Rattle.trainer.specs.declared.Question.{Question}
@@ -180,10 +181,11 @@ module _ (s : Sender) (out : List ℕ) (at : ℕ) where
     by-tick e l = rw e at l
 
 -- ---- a lookup
-pub looked : (t : RuleTree) (out : List ℕ) (at : ℕ) {x y z u v w : Float} {p : Point} {found : Looked} {end : ℕ} {after : List ℕ} → x ≡ u → y ≡ v
-    → z ≡ w → p ≡ pointOf x y z → found ≡ lookupOf t p → Puts out at (lookedWords found) end after
+pub looked : (t : RuleTree) (out : List ℕ) (at : ℕ) {x y z u v w : Float} {p : Point} {l : Lookup} {end : ℕ} {after : List ℕ} → x ≡ u → y ≡ v
+    → z ≡ w → p ≡ pointOf x y z → l ≡ openedOf t p → Puts out at (lookedWords (l .found)) end after
     → Puts out at (lookedWords (lookupOf t (pointOf u v w))) end after
-looked t out at a b c e f p = spelt out at (ap lookedWords (f ∙ ap (lookupOf t) (e ∙ (λ j. pointOf (a j) (b j) (c j))))) p
+looked t out at {p} {l} a b c e f h =
+    spelt out at (ap lookedWords (ap (λ (x : Lookup). x .found) f ∙ opened-found t p ∙ ap (lookupOf t) (e ∙ (λ j. pointOf (a j) (b j) (c j))))) h
 
 -- ---- a call of each kind
 module _ (r : State) (out : List ℕ) {after : List ℕ} where

@@ -251,5 +251,7 @@ pub(crate) fn lookup(tree: RuleTree, ws: &[u64], out: &mut [u64], at: usize) -> 
         script::float(ws, 2),
         script::float(ws, 3),
     );
-    words::put_looked(out, at, tree.action(p))
+    let opened = tree.action(p);
+    let found = opened.found;
+    words::put_looked(out, at, found)
 }

@@ -163,10 +163,14 @@ fn action(n: i32) -> Action {
     Action::new(1.0, n, 0.0)
 }
 
-fn fresh() -> RuleTree {
+fn fresh_in(ends: Point) -> RuleTree {
     let a = action(7);
-    let made = RuleTree::new(Point::usual_ends(), a);
+    let made = RuleTree::new(ends, a);
     made.tree
+}
+
+fn fresh() -> RuleTree {
+    fresh_in(Point::usual_ends())
 }
 
 fn split(t: RuleTree, leaf: u16) -> RuleTree {
@@ -200,6 +204,23 @@ fn grow(step: u16) -> RuleTree
     t
 }
 
+// 64 splits: each of the last child of the one before, but of the first child after the one with number low.
+fn deep(start: RuleTree, low: u16) -> RuleTree {
+    let mut t = start;
+    let mut leaf: u16 = 0;
+    let mut k: u16 = 0;
+    while k < 64 {
+        t = split(t, leaf);
+        if k == low {
+            leaf = 8 * k + 1;
+        } else {
+            leaf = 8 * k + 8;
+        }
+        k += 1;
+    }
+    t
+}
+
 // Every leaf of a root that was split once.
 fn mark_eight(start: RuleTree) -> RuleTree {
     let mut t = start;
@@ -223,15 +244,18 @@ fn with_node(t: RuleTree, i: usize, action: Action, children: u16, optimized: bo
 
 // ---- lines
 
-// The leaf that a point reaches, and the action that it finds.
+// The leaf that a point reaches, the action that it finds, and how many cubes were tested.
 fn at(t: RuleTree, ack: f64, send: f64, ratio: f64) {
     let p = Point::new(ack, send, ratio);
     let mut counts = [0u64; 513];
     let reached = t.tally(&mut counts, p);
     show_tallied(reached);
     say(b", ");
-    let found = t.action(p);
+    let opened = t.action(p);
+    let found = opened.found;
     show_looked(found);
+    say(b", tested ");
+    number(opened.tested as u64);
     end();
 }
 
@@ -544,8 +568,24 @@ fn large() {
     compare(chain, bush);
 }
 
+// The most cubes that a lookup tests. With the usual ends the last children grow empty, so that the first is once the deeper way.
+fn deepest() {
+    say(b"-- the deepest\n");
+    say(b"with the usual ends: ");
+    at(
+        deep(fresh(), 45),
+        599.9999999999914,
+        599.9999999999914,
+        999.9999999999857,
+    );
+    say(b"with ends of many digits: ");
+    let ends = Point::new(600.0000000000001, 600.0000000000001, 1000.0000000000001);
+    at(deep(fresh_in(ends), 64), 600.0, 600.0, 1000.0);
+}
+
 fn main() {
     large();
+    deepest();
     let t = split(fresh(), 0);
     say(b"-- one split\n");
     tallies(t);
