@@ -1,7 +1,9 @@
 //! Writes calls and plays them on 01's plain trainer and sender, so that the next call fits.
 
 use super::{
-    values::{any_float, calm_header, edge_float, near_action, small_settings, step, valid_action, vary_settings},
+    values::{
+        any_float, calm_header, edge_float, near_action, small_settings, step, valid_action, vary_settings,
+    },
     Dice,
 };
 use crate::{

@@ -409,7 +409,8 @@ pub fn limits(dice: Dice) -> Vec<u8> {
 
 /// A script of another kind that is cut, or goes on with what is no call.
 pub fn cut(mut dice: Dice) -> Vec<u8> {
-    let others: Vec<_> = KINDS.iter().filter(|(name, _)| !["cut", "undo", "ends", "change"].contains(name)).collect();
+    let others: Vec<_> =
+        KINDS.iter().filter(|(name, _)| !["cut", "undo", "ends", "change"].contains(name)).collect();
     let (_, author) = others[dice.below(others.len())];
     let mut script = author(Dice(dice.next()));
     if dice.one_in(2) {
