@@ -57,6 +57,7 @@ pub fn run() -> i32 {
         even_rows,
         versions,
         ends,
+        changed,
         accepted,
         refused_records,
         sending,
@@ -789,6 +790,42 @@ fn even_rows(t: &mut Table) {
     ] {
         t.row(&format!("the row of {point:?}"), row(point), want);
     }
+}
+
+fn changed(t: &mut Table) {
+    let change = |s: Settings| {
+        let drill = u8::from(s.drill);
+        Call::ChangeSettings(s, drill)
+    };
+    let s = few(2, 1, false);
+    let counts = || Call::Counts(vec![5]);
+    let other = Settings { default: action(0.5, 3, 0.25), ..s.clone() };
+    let calls = [counts(), Call::Score(1.0), change(other.clone()), Call::PrintTree];
+    let own = |calls: &[Call]| answers(&s, calls);
+    t.row(
+        "the default action changes no leaf",
+        nodes_of(&lines(&s, &calls)),
+        "0 leaf 0 3ff0000000000000 1 3f689374bc6a7efa",
+    );
+    let asked = questions(&s, &[counts(), Call::Score(1.0), change(other.clone())]);
+    let asked: Vec<&str> = asked.split("; ").collect();
+    t.row("the leaf's own action is asked for again", asked[3], asked[1]);
+    let ends = Settings { ends: [601.0, 600.0, 1000.0], ..s.clone() };
+    t.row("another end", own(&[change(ends.clone())]), "refused 27");
+    t.row("2 before 27", own(&[change(Settings { multiplier: 1, ..ends })]), "refused 2");
+    t.row("a drill byte of 2", own(&[Call::ChangeSettings(s.clone(), 2)]), "refused 2");
+    let none = Settings { rounds: 0, ..s.clone() };
+    t.row("phase 3 with no round left", own(&[change(none.clone())]), "refused 27");
+    t.row("phase 4 with no round left", own(&[counts(), change(none.clone())]), "ok; refused 27");
+    let splitting = few(2, 0, false);
+    let at_split = |calls: &[Call]| answers(&splitting, calls);
+    t.row("phase 1 at the last stage", at_split(&[change(few(1, 0, false))]), "ok");
+    t.row("a stage above", at_split(&[change(few(0, 0, false))]), "refused 27");
+    t.row("phase 6", answers(&few(0, 0, false), &[change(few(3, 1, false))]), "refused 27");
+    t.row("phase 7", answers(&few(0, 0, false), &[counts(), change(few(3, 1, false))]), "ok; refused 27");
+    let drilled = few(2, 0, true);
+    let calls = [counts(), change(few(2, 0, false)), Call::Counts(vec![5, 0, 0, 0, 0, 0, 0, 0, 0])];
+    t.row("phase 2 stays where drilling is off", answers(&drilled, &calls), "ok; ok; refused 4");
 }
 
 fn versions(t: &mut Table) {
