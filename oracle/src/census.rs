@@ -26,6 +26,10 @@ fn name(call: &Call) -> &'static str {
         Call::Load(_) => "load",
         Call::Equal(_) => "equal",
         Call::UndoSplit => "undo",
+        Call::Seed(_) => "seed",
+        Call::OwnAck(..) => "own ack",
+        Call::Step => "step",
+        Call::StepBack => "back",
     }
 }
 

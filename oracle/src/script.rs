@@ -32,6 +32,11 @@ pub enum Call {
     Load(Vec<u8>),
     Equal(Vec<u8>),
     UndoSplit,
+    Seed([u64; 4]),
+    /// Sent, received; the draw is the generator's.
+    OwnAck(f64, f64),
+    Step,
+    StepBack,
 }
 
 #[derive(Debug)]
@@ -143,6 +148,10 @@ impl<'a> Reader<'a> {
             13 => Call::Load(self.record()?),
             14 => Call::Equal(self.record()?),
             17 => Call::UndoSplit,
+            19 => Call::Seed([self.u64()?, self.u64()?, self.u64()?, self.u64()?]),
+            20 => Call::OwnAck(self.f64()?, self.f64()?),
+            23 => Call::Step,
+            24 => Call::StepBack,
             _ => return Err(BadScript),
         }))
     }
@@ -253,6 +262,19 @@ impl Writer {
                 self.record(record);
             }
             Call::UndoSplit => self.bytes.push(17),
+            Call::Seed(words) => {
+                self.bytes.push(19);
+                for word in words {
+                    self.bytes.extend(word.to_be_bytes());
+                }
+            }
+            Call::OwnAck(sent, received) => {
+                self.bytes.push(20);
+                self.f64(*sent);
+                self.f64(*received);
+            }
+            Call::Step => self.bytes.push(23),
+            Call::StepBack => self.bytes.push(24),
         }
     }
 }

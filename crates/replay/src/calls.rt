@@ -1,4 +1,5 @@
 // The calls, each with the lines that it prints.
+use crate::draws;
 use crate::input;
 use crate::lines;
 use record::Saved;
@@ -11,18 +12,20 @@ use sender::Sender;
 use trainer::Answered;
 use trainer::Trainer;
 use trainer::candidates;
+use xoshiro::State;
 
-// What the calls act on: the trainer, the sender and a list of counts, one a node. With it the place
-// in the output, and whether the script is over.
+// What the calls act on: the trainer, the sender, the generator and a list of counts, one a node. With it
+// the place in the output, and whether the script is over.
 pub(crate) struct Replay {
     pub(crate) trainer: Trainer,
     pub(crate) sender: Sender,
+    pub(crate) generator: State,
     pub(crate) counts: [u64; 513],
     pub(crate) at: usize,
     pub(crate) over: bool,
 }
 
-fn printed(mut r: Replay, at: usize) -> Replay {
+pub(crate) fn printed(mut r: Replay, at: usize) -> Replay {
     r.at = at;
     r
 }
@@ -158,7 +161,7 @@ fn reply_line(out: &mut [u8], at: usize, reply: Reply) -> usize {
     }
 }
 
-fn replied(mut r: Replay, reply: Reply, out: &mut [u8]) -> Replay {
+pub(crate) fn replied(mut r: Replay, reply: Reply, out: &mut [u8]) -> Replay {
     let old = r.sender;
     let s = sender_of(reply, old);
     let at = reply_line(out, r.at, reply);
@@ -320,6 +323,7 @@ pub(crate) fn call(r: Replay, code: u8, fields: &[u8], out: &mut [u8]) -> Replay
     match code {
         1 | 2 | 3 | 13 => trainer_call(r, code, fields, out),
         4 | 5 | 6 | 7 => sender_call(r, code, fields, out),
+        19 | 20 | 23 | 24 => draws::call(r, code, fields, out),
         _ => tree_call(r, code, fields, out),
     }
 }

@@ -179,13 +179,19 @@ fn head_size(code: u8) -> usize
         4 => 21,
         8 | 10 | 11 => 24,
         9 => 46,
+        19 => 32,
+        20 => 16,
         13 | 14 => 4,
         _ => 0,
     }
 }
 
 fn known(code: u8) -> bool {
-    (1 <= code && code <= 14) || code == 17
+    match code {
+        0 => false,
+        17 | 19 | 20 | 23 | 24 => true,
+        _ => code <= 14,
+    }
 }
 
 // A call whose fields are the next n bytes, at most so many.

@@ -15,6 +15,7 @@ use sender::Wake;
 use trainer::Question;
 use trainer::Trainer;
 use trainer::candidates::Candidate;
+use xoshiro::State;
 
 fn number_line(out: &mut [u8], at: usize, word: &[u8], n: u32) -> usize {
     let next = output::named(out, at, word, n as u64);
@@ -33,6 +34,23 @@ pub(crate) fn refused(out: &mut [u8], at: usize, number: u32) -> usize {
 
 pub(crate) fn window(out: &mut [u8], at: usize, w: u32) -> usize {
     number_line(out, at, b"window", w)
+}
+
+pub(crate) fn output_number(out: &mut [u8], at: usize, n: u64) -> usize {
+    let next = output::named(out, at, b"output", n);
+    output::end_line(out, next)
+}
+
+// The generator's words, or that there is none.
+pub(crate) fn state(out: &mut [u8], at: usize, s: State) -> usize {
+    if xoshiro::inner::zeros(s) {
+        return words(out, at, b"state -");
+    }
+    let next = output::named(out, at, b"state", s.s0);
+    let next = output::number(out, next, s.s1);
+    let next = output::number(out, next, s.s2);
+    let next = output::number(out, next, s.s3);
+    output::end_line(out, next)
 }
 
 // Words alone.

@@ -1,12 +1,14 @@
 //! Document 01, sentence by sentence, in plain Rust. Nothing here is taken from the originals: the driver
 //! holds the two against each other.
 
+mod generator;
 mod record;
 mod sender;
 mod settings;
 mod trainer;
 mod tree;
 
+pub use generator::Generator;
 pub use sender::{Ack, Repeat, Sender};
 pub use settings::{Settings, USUAL_ENDS};
 pub use trainer::{Answer, Change, Phase, Trainer};
