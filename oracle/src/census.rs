@@ -30,6 +30,10 @@ fn name(call: &Call) -> &'static str {
         Call::EvenRow(_) => "row",
         Call::NextList(..) => "list",
         Call::ChangeSettings(..) => "change",
+        Call::Seed(_) => "seed",
+        Call::OwnAck(..) => "own ack",
+        Call::Step => "step",
+        Call::StepBack => "back",
     }
 }
 

@@ -11,7 +11,10 @@ use flowforge::{
 };
 
 use crate::{
-    plain::{bits, even_row, next_list, tree_of, Action, Answer, Phase, Refused, Sender, Trainer, Tree},
+    plain::{
+        bits, even_row, next_list, tree_of, Ack, Action, Answer, Generator, Phase, Refused, Sender, Trainer,
+        Tree,
+    },
     rust::{self, disagree, grow, of_action, same_sender, same_tree, shown, to_action, Originals, Shown},
     script::{repeat, Call, Reader},
 };
@@ -47,6 +50,7 @@ struct Player {
     out: String,
     trainer: Trainer,
     sender: Sender,
+    generator: Option<Generator>,
     originals: Originals,
     tally: Vec<u64>,
 
@@ -97,6 +101,7 @@ pub fn play(script: &[u8]) -> Played {
         saved: HashMap::new(),
         trainer,
         sender,
+        generator: None,
         originals,
         tally: vec![0],
         answers: Vec::new(),
@@ -269,13 +274,18 @@ impl Player {
             call,
             Call::Counts(_) | Call::Score(_) | Call::Reload(_) | Call::Load(_) | Call::ChangeSettings(..)
         );
-        let shows_sender = matches!(call, Call::Ack(_) | Call::Send(_) | Call::Tick);
+        let shows_state = matches!(call, Call::OwnAck(..));
+        let shows_sender = shows_state || matches!(call, Call::Ack(_) | Call::Send(_) | Call::Tick);
         let went = self.make(call);
         if self.tally.len() != self.trainer.tree.nodes.len() {
             self.tally = vec![0; self.trainer.tree.nodes.len()];
         }
         if shows_sender {
             self.print_sender();
+        }
+        if shows_state {
+            let line = self.state_line();
+            self.line(&line);
         }
         if asks_again && matches!(went, Ok(Went::On) | Err(_)) {
             if let Err(number) = went {
@@ -359,8 +369,51 @@ impl Player {
         Went::Left(Left::Loaded { known: self.followed })
     }
 
+    fn state_line(&self) -> String {
+        let Some(Generator([s0, s1, s2, s3])) = self.generator else {
+            return "state -".to_owned();
+        };
+        format!("state {s0} {s1} {s2} {s3}")
+    }
+
+    /// The generator's calls; the originals draw from one of another kind, so they have no part in it.
+    fn generate(&mut self, call: Call) -> Result<String, Refused> {
+        let mut line = String::new();
+        match call {
+            Call::Seed(words) => self.generator = Some(Generator::new(words)?),
+            Call::Step => {
+                let generator = self.generator.as_mut().ok_or(26u32)?;
+                line = format!("output {}\n", generator.output());
+                generator.step();
+            }
+            Call::StepBack => self.generator.as_mut().ok_or(26u32)?.step_back(),
+            _ => unreachable!(),
+        }
+        Ok(line + &self.state_line())
+    }
+
+    /// An ack that is handed the generator's draw: 26, then the ack's own.
+    fn own_ack(&mut self, sent: f64, received: f64) -> Result<u32, Refused> {
+        let mut generator = self.generator.ok_or(26u32)?;
+        let due = Generator::due(&self.sender);
+        let ack = Ack { sent, received, draw: generator.draw(self.sender.repeat) };
+        let original = self.originals.ack(&ack);
+        let plain = self.sender.ack(&self.trainer.tree, &ack).map(|(window, _)| window);
+        let window = agreed("an ack with its own draw", original, plain)?;
+        if due {
+            generator.step();
+            self.generator = Some(generator);
+        }
+        Ok(window)
+    }
+
     /// The calls that leave the trainer as it is.
     fn read_or_send(&mut self, call: Call) -> Result<String, Refused> {
+        match call {
+            Call::OwnAck(sent, received) => return Ok(format!("window {}", self.own_ack(sent, received)?)),
+            Call::Seed(_) | Call::Step | Call::StepBack => return self.generate(call),
+            _ => {}
+        }
         let tree = &self.trainer.tree;
         Ok(match call {
             Call::Ack(ack) => {
@@ -449,9 +502,7 @@ impl Player {
                 let equal = agreed("equality", Ok(original), Ok(tree.equal(&other.tree)))?;
                 format!("equal {}", u8::from(equal))
             }
-            Call::Counts(_) | Call::Score(_) | Call::Reload(_) | Call::Load(_) | Call::ChangeSettings(..) => {
-                unreachable!()
-            }
+            _ => unreachable!(),
         })
     }
 

@@ -37,6 +37,11 @@ pub enum Call {
     NextList(u8, Vec<u16>),
     /// The settings and their drill byte.
     ChangeSettings(Settings, u8),
+    Seed([u64; 4]),
+    /// Sent, received; the draw is the generator's.
+    OwnAck(f64, f64),
+    Step,
+    StepBack,
 }
 
 #[derive(Debug)]
@@ -163,6 +168,10 @@ impl<'a> Reader<'a> {
                 let (n, length) = (self.u8()?, self.u8()?);
                 Call::NextList(n, (0..length).map(|_| self.u16()).collect::<Result<_, _>>()?)
             }
+            19 => Call::Seed([self.u64()?, self.u64()?, self.u64()?, self.u64()?]),
+            20 => Call::OwnAck(self.f64()?, self.f64()?),
+            23 => Call::Step,
+            24 => Call::StepBack,
             _ => return Err(BadScript),
         }))
     }
@@ -295,6 +304,19 @@ impl Writer {
                 self.bytes.push(15);
                 self.settings(settings, *drill);
             }
+            Call::Seed(words) => {
+                self.bytes.push(19);
+                for word in words {
+                    self.bytes.extend(word.to_be_bytes());
+                }
+            }
+            Call::OwnAck(sent, received) => {
+                self.bytes.push(20);
+                self.f64(*sent);
+                self.f64(*received);
+            }
+            Call::Step => self.bytes.push(23),
+            Call::StepBack => self.bytes.push(24),
         }
     }
 }

@@ -14,8 +14,8 @@ use crate::{
     driver::play,
     gen,
     plain::{
-        admitted, bits, next_list, split_lists, Ack, Action, Answer, Cube, Phase, Point, Repeat, Sender,
-        Settings, Trainer, Tree, USUAL_ENDS,
+        admitted, bits, next_list, split_lists, Ack, Action, Answer, Cube, Generator, Phase, Point, Repeat,
+        Sender, Settings, Trainer, Tree, USUAL_ENDS,
     },
     rust::{as_given, grow, improvements, leaf, shown, to_action, Shown},
     script::{Call, Header, Writer},
@@ -62,6 +62,7 @@ pub fn run() -> i32 {
         refused_records,
         sending,
         repeating,
+        drawing,
         headers,
         bad_scripts,
         noted,
@@ -1169,6 +1170,67 @@ fn repeating(t: &mut Table) {
     nan.round_trips = Some((f64::NAN, 1.0));
     let refused = nan.ack(&tree, &Ack { sent: 0.0, received: 1.0, draw: None });
     t.row("a held NaN stays", format!("{refused:?}"), "Err(22)");
+}
+
+/// Draws of the generator's own.
+fn drawing(t: &mut Table) {
+    let mode = |mode, lo, hi| Header { mode, lo, hi, ..header(default_settings()) };
+    let own_lines = |header: &Header, calls: &[Call]| own(&lines_of(header, calls));
+    let off = mode(0, 0, 0);
+    let seed = Call::Seed([1, 2, 3, 4]);
+    let first = "state 1 2 3 4";
+    let second = "state 7 0 262146 211106232532992";
+    let taken = Call::OwnAck(0.0, 1.0);
+    t.row(
+        "the first outputs",
+        own_lines(&off, &[seed.clone(), Call::Step, Call::Step, Call::Step])
+            .split("; ")
+            .filter_map(|line| line.strip_prefix("output "))
+            .collect::<Vec<_>>()
+            .join(" "),
+        "41943041 58720359 3588806011781223",
+    );
+    t.row(
+        "a step and the step back",
+        own_lines(&off, &[seed.clone(), Call::Step, Call::StepBack]),
+        format!("{first}; output 41943041; {second}; {first}"),
+    );
+    t.row("none yet", own_lines(&off, &[Call::Step, Call::StepBack]), "refused 26; refused 26");
+    t.row("an ack with none", own_lines(&off, &[Call::OwnAck(f64::NAN, 1.0)]), "refused 26; state -");
+    t.row(
+        "four zeros leave the state",
+        own_lines(&off, &[seed.clone(), Call::Seed([0; 4]), Call::Step]),
+        format!("{first}; refused 26; output 41943041; {second}"),
+    );
+    for (name, header) in [("off", mode(0, 0, 0)), ("always", mode(1, 1, 0))] {
+        t.row(
+            &format!("{name}: no step"),
+            own_lines(&header, &[seed.clone(), taken.clone()]),
+            format!("{first}; window 2; {first}"),
+        );
+    }
+    let one = mode(2, 0, 0);
+    t.row(
+        "a step at a due draw, none at the repeat",
+        own_lines(&one, &[seed.clone(), taken.clone(), taken.clone()]),
+        format!("{first}; window 2; {second}; window 3; {second}"),
+    );
+    t.row(
+        "no step at a refused ack",
+        own_lines(&one, &[seed.clone(), Call::OwnAck(-1.0, 1.0), Call::OwnAck(1.0, 1.0)]),
+        format!("{first}; refused 1; {first}; refused 22; {first}"),
+    );
+    // 41943041 modulo 5 is 1.
+    let drawn = lines_of(&mode(2, 3, 7), &[seed, taken]);
+    t.row("lo plus the output modulo hi - lo + 1", last_sender(&drawn).split(' ').nth(7).unwrap(), 4);
+    let state = Generator::new([1, 2, 3, 4]).unwrap();
+    t.row("lo above hi", format!("{:?}", state.draw(Repeat::Within(3, 2))), "None");
+    t.row("all 32 bits", format!("{:?}", state.draw(Repeat::Within(0, u32::MAX))), "Some(41943041)");
+    let mut there = Generator::new([u64::MAX, 0, 1 << 63, 12345]).unwrap();
+    let start = there;
+    (0..3000).for_each(|_| there.step());
+    (0..3000).for_each(|_| there.step_back());
+    t.row("3000 steps there and back", there == start, true);
 }
 
 fn headers(t: &mut Table) {

@@ -1,4 +1,5 @@
 // The calls, each with the lines that it prints.
+use crate::draws;
 use crate::input;
 use crate::lines;
 use crate::trees;
@@ -12,18 +13,20 @@ use sender::Sender;
 use trainer::Answered;
 use trainer::Trainer;
 use trainer::candidates;
+use xoshiro::State;
 
-// What the calls act on: the trainer, the sender and a list of counts, one a node. With it the place
-// in the output, and whether the script is over.
+// What the calls act on: the trainer, the sender, the generator and a list of counts, one a node. With it
+// the place in the output, and whether the script is over.
 pub(crate) struct Replay {
     pub(crate) trainer: Trainer,
     pub(crate) sender: Sender,
+    pub(crate) generator: State,
     pub(crate) counts: [u64; 513],
     pub(crate) at: usize,
     pub(crate) over: bool,
 }
 
-fn printed(mut r: Replay, at: usize) -> Replay {
+pub(crate) fn printed(mut r: Replay, at: usize) -> Replay {
     r.at = at;
     r
 }
@@ -169,7 +172,7 @@ fn reply_line(out: &mut [u8], at: usize, reply: Reply) -> usize {
     }
 }
 
-fn replied(mut r: Replay, reply: Reply, out: &mut [u8]) -> Replay {
+pub(crate) fn replied(mut r: Replay, reply: Reply, out: &mut [u8]) -> Replay {
     let old = r.sender;
     let s = sender_of(reply, old);
     let at = reply_line(out, r.at, reply);
@@ -350,6 +353,7 @@ pub(crate) fn call(r: Replay, code: u8, fields: &[u8], out: &mut [u8]) -> Replay
     match code {
         1 | 2 | 3 | 13 | 15 => trainer_call(r, code, fields, out),
         4 | 5 | 6 | 7 => sender_call(r, code, fields, out),
+        19 | 20 | 23 | 24 => draws::call(r, code, fields, out),
         22 => apply(r, fields, out),
         25 => even_row(r, fields, out),
         26 => next_list(r, fields, out),

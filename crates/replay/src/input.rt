@@ -179,6 +179,8 @@ fn head_size(code: u8) -> usize
         4 => 21,
         8 | 10 | 11 | 22 | 25 => 24,
         9 => 46,
+        19 => 32,
+        20 => 16,
         13 | 14 => 4,
         15 => 137,
         _ => 0,
@@ -186,7 +188,11 @@ fn head_size(code: u8) -> usize
 }
 
 fn known(code: u8) -> bool {
-    (1 <= code && code <= 15) || code == 17 || code == 22 || code == 25 || code == 26
+    match code {
+        0 => false,
+        17 | 19 | 20 | 22 | 23 | 24 | 25 | 26 => true,
+        _ => code <= 15,
+    }
 }
 
 // A call whose fields are the next n bytes, at most so many.

@@ -16,6 +16,7 @@ use sender::Wake;
 use trainer::Question;
 use trainer::Trainer;
 use trainer::candidates::Candidate;
+use xoshiro::State;
 
 fn number_line(out: &mut [u8], at: usize, word: &[u8], n: u32) -> usize {
     let next = output::named(out, at, word, n as u64);
@@ -41,6 +42,23 @@ pub(crate) fn applied(out: &mut [u8], at: usize, a: Applied) -> usize {
     let flag = if a.clipped { 1 } else { 0 };
     let next = output::named(out, at, b"applied", a.window as u64);
     let next = output::number(out, next, flag);
+    output::end_line(out, next)
+}
+
+pub(crate) fn output_number(out: &mut [u8], at: usize, n: u64) -> usize {
+    let next = output::named(out, at, b"output", n);
+    output::end_line(out, next)
+}
+
+// The generator's words, or that there is none.
+pub(crate) fn state(out: &mut [u8], at: usize, s: State) -> usize {
+    if xoshiro::inner::zeros(s) {
+        return words(out, at, b"state -");
+    }
+    let next = output::named(out, at, b"state", s.s0);
+    let next = output::number(out, next, s.s1);
+    let next = output::number(out, next, s.s2);
+    let next = output::number(out, next, s.s3);
     output::end_line(out, next)
 }
 

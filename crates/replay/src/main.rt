@@ -1,4 +1,4 @@
-// Makes the calls of a script on one trainer and one sender, and prints every answer.
+// Makes the calls of a script on one trainer, one sender and one generator, and prints every answer.
 use crate::calls::Replay;
 use crate::input::Next;
 use sender::Made;
@@ -6,6 +6,7 @@ use sender::Sender;
 use trainer::Trainer;
 
 mod calls;
+mod draws;
 mod input;
 mod lines;
 mod output;
@@ -30,9 +31,11 @@ fn turn(r: Replay, bytes: &mut [u8], out: &mut [u8]) -> Replay {
 // a number that no run uses up.
 fn run(trainer: Trainer, sender: Sender, bytes: &mut [u8], out: &mut [u8]) {
     let at = lines::question(out, 0, trainer);
+    let generator = draws::none();
     let mut r = Replay {
         trainer,
         sender,
+        generator,
         counts: [0; 513],
         at,
         over: false,

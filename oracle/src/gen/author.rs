@@ -7,7 +7,7 @@ use super::{
     Dice,
 };
 use crate::{
-    plain::{Ack, Answer, Phase, Point, Repeat, Sender, Trainer},
+    plain::{Ack, Answer, Generator, Phase, Point, Repeat, Sender, Trainer},
     script::{repeat, Call, Header, Writer},
 };
 
@@ -18,6 +18,7 @@ pub struct Author {
     pub writer: Writer,
     pub trainer: Trainer,
     pub sender: Sender,
+    pub generator: Option<Generator>,
     pub clock: f64,
     pub saved: Vec<Vec<u8>>,
     pub scores: usize,
@@ -30,6 +31,7 @@ impl Author {
             writer: Writer::new(header),
             trainer: Trainer::start(header.settings.clone()).expect("settings that hold"),
             sender: Sender::new(repeat(header).unwrap()).expect("a repeat that holds"),
+            generator: None,
             clock: dice.unit() * 100.0,
             saved: Vec::new(),
             scores,
@@ -71,7 +73,21 @@ impl Author {
             Call::Ack(ack) => drop(self.sender.ack(&self.trainer.tree, &ack)),
             Call::Send(moment) => drop(self.sender.send(moment)),
             Call::Tick => drop(self.sender.tick()),
+            Call::Seed(words) => self.generator = Generator::new(words).ok().or(self.generator),
+            Call::OwnAck(sent, received) => self.own_ack(sent, received),
+            Call::Step => self.generator.iter_mut().for_each(Generator::step),
+            Call::StepBack => self.generator.iter_mut().for_each(Generator::step_back),
             _ => {}
+        }
+    }
+
+    fn own_ack(&mut self, sent: f64, received: f64) {
+        if let Some(generator) = &mut self.generator {
+            let due = Generator::due(&self.sender);
+            let ack = Ack { sent, received, draw: generator.draw(self.sender.repeat) };
+            if self.sender.ack(&self.trainer.tree, &ack).is_ok() && due {
+                generator.step();
+            }
         }
     }
 

@@ -411,7 +411,9 @@ pub fn limits(dice: Dice) -> Vec<u8> {
 pub fn cut(mut dice: Dice) -> Vec<u8> {
     let others: Vec<_> = KINDS
         .iter()
-        .filter(|(name, _)| !["cut", "undo", "ends", "apply", "lists", "even", "change"].contains(name))
+        .filter(|(name, _)| {
+            !["cut", "undo", "ends", "apply", "lists", "even", "change", "draws"].contains(name)
+        })
         .collect();
     let (_, author) = others[dice.below(others.len())];
     let mut script = author(Dice(dice.next()));
@@ -487,6 +489,74 @@ pub fn undo(dice: Dice) -> Vec<u8> {
     let mut script = author.writer.bytes;
     if author.dice.one_in(8) {
         script.extend([17, author.dice.pick(&[15, 16, 18])]);
+    }
+    script
+}
+
+/// Four words, some of them 0 or 1s alone; four zeros too.
+fn seed(dice: &mut Dice) -> [u64; 4] {
+    let style = dice.below(6);
+    std::array::from_fn(|i| match style {
+        0 => [1, 2, 3, 4][i],
+        1 => 0,
+        2 => dice.pick(&[0, 0, 0, 1, 1 << 63, u64::MAX]),
+        _ => dice.next(),
+    })
+}
+
+/// The generator's steps both ways, and acks that draw for themselves, with every repeat mode.
+pub fn draws(mut dice: Dice) -> Vec<u8> {
+    let settings = small_settings(&mut dice, 2);
+    let mut header = calm_header(settings, &mut dice);
+    if !dice.one_in(4) {
+        let hi = dice.within(0, 4) as u32;
+        header.mode = 2;
+        (header.lo, header.hi) = dice.pick(&[
+            (0, hi),
+            (0, hi),
+            (0, 0),
+            (hi, hi),
+            (0, 4_294_967_294),
+            (4_294_967_294, 4_294_967_294),
+        ]);
+    }
+    let mut author = Author::new(dice, &header);
+    if author.dice.one_in(3) {
+        let splits = author.some_splits();
+        author.load_crafted(splits);
+    }
+    if !author.dice.one_in(8) {
+        let words = seed(&mut author.dice);
+        author.call(Call::Seed(words));
+    }
+    for _ in 0..author.dice.within(5, 120) {
+        let ack = author.ack();
+        let moment = author.moment();
+        let call = match author.dice.below(20) {
+            0 => Call::Seed(seed(&mut author.dice)),
+            1 | 2 => Call::Step,
+            3 => Call::StepBack,
+            4 => Call::Send(moment),
+            5 => Call::Tick,
+            6 => Call::Ack(ack),
+            7 => Call::OwnAck(author.edge_moment(), ack.received),
+            8 => Call::OwnAck(ack.sent, author.edge_moment()),
+            _ => Call::OwnAck(ack.sent, ack.received),
+        };
+        author.call(call);
+        if author.dice.one_in(40) {
+            author.good_answer();
+        }
+    }
+    if author.dice.one_in(4) {
+        let back = author.dice.one_in(3);
+        for _ in 0..author.dice.within(100, 400) {
+            author.call(if back { Call::StepBack } else { Call::Step });
+        }
+    }
+    let mut script = author.writer.bytes;
+    if author.dice.one_in(8) {
+        script.extend([author.dice.pick(&[19, 20]), 0, 0]);
     }
     script
 }

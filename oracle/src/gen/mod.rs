@@ -27,6 +27,7 @@ pub const KINDS: &[(&str, fn(Dice) -> Vec<u8>)] = &[
     ("lists", kinds::lists),
     ("even", kinds::even),
     ("change", kinds::change),
+    ("draws", kinds::draws),
 ];
 
 /// None where there is no such kind.

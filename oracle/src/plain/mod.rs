@@ -2,6 +2,7 @@
 //! holds the two against each other.
 
 mod even;
+mod generator;
 mod lists;
 mod record;
 mod sender;
@@ -10,6 +11,7 @@ mod trainer;
 mod tree;
 
 pub use even::{even_row, even_tree};
+pub use generator::Generator;
 pub use lists::{next_list, split_lists, tree_of};
 pub use sender::{Ack, Repeat, Sender};
 pub use settings::{Settings, USUAL_ENDS};

@@ -16,6 +16,9 @@ abbrev μ-loop : tie.MeasureT-loop
 question-requires : tie.Need-question-requires Inv-loop μ-loop
 question-requires c κs = search needs
 
+none-requires : tie.Need-none-requires Inv-loop μ-loop
+none-requires c κs = search needs
+
 loop-holds : tie.Need-loop-holds Inv-loop μ-loop
 loop-holds c = search needs
 
@@ -50,6 +53,7 @@ run-spec =
     Inv-loop
     μ-loop
     question-requires
+    none-requires
     loop-holds
     turn-requires
     sub-turns

@@ -1,0 +1,2 @@
+pub mod OwnDraws
+pub mod OwnRuns

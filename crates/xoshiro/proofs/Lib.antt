@@ -1,0 +1,6 @@
+pub mod Words
+pub mod Inverse
+pub mod Zeros
+pub mod CallLaws
+pub mod Draws
+pub mod Lens

@@ -1,0 +1,2 @@
+pub mod Xoshiro
+pub mod Calls
