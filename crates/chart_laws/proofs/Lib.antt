@@ -7,3 +7,4 @@ pub mod Taking
 pub mod Calls
 pub mod Settings
 pub mod OnTheWay
+pub mod Lens
