@@ -26,6 +26,7 @@ pub enum Call {
     Wake(f64),
     Lookup(Point),
     LookupReplaced(u16, Action, Point),
+    Tested(Point),
     Tally(Point),
     Candidate(Action, u32),
     PrintTree,
@@ -143,6 +144,7 @@ impl<'a> Reader<'a> {
             13 => Call::Load(self.record()?),
             14 => Call::Equal(self.record()?),
             17 => Call::UndoSplit,
+            21 => Call::Tested(self.point()?),
             _ => return Err(BadScript),
         }))
     }
@@ -253,6 +255,10 @@ impl Writer {
                 self.record(record);
             }
             Call::UndoSplit => self.bytes.push(17),
+            Call::Tested(point) => {
+                self.bytes.push(21);
+                self.point(point);
+            }
         }
     }
 }

@@ -53,6 +53,7 @@ pub fn run() -> i32 {
         scores,
         sizes,
         undone,
+        tested,
         versions,
         ends,
         accepted,
@@ -709,6 +710,25 @@ fn undone(t: &mut Table) {
     t.row("as before it", twice.tree.undo_split().unwrap().equal(&grown(&[0]).tree), true);
     let calls = [Call::Load(twice.record()), Call::UndoSplit, Call::PrintTree];
     t.row("the trainer stays", nodes_of(&lines(&s, &calls)).matches(" parent ").count(), 3);
+}
+
+fn tested(t: &mut Table) {
+    let s = few(3, 1, false);
+    let ask = |splits: &[usize], point: Point| {
+        answers(&s, &[Call::Load(grown(splits).record()), Call::Tested(point)])
+    };
+    for (name, splits, point, want) in [
+        ("the root alone", &[][..], [0.0; 3], 1),
+        ("outside", &[0], [600.0, 0.0, 0.0], 1),
+        ("NaN", &[0], [0.0, f64::NAN, 0.0], 1),
+        ("the first child", &[0], [0.0; 3], 2),
+        ("-0", &[0], [-0.0; 3], 2),
+        ("the last child", &[0], [300.0, 300.0, 500.0], 9),
+        ("the first of the last", &[0, 8], [300.0, 300.0, 500.0], 10),
+        ("the last of the last", &[0, 8], [599.0, 599.0, 999.0], 17),
+    ] {
+        t.row(&format!("cubes tested: {name}"), ask(splits, point), format!("loaded; tested {want}"));
+    }
 }
 
 fn versions(t: &mut Table) {

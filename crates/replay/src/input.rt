@@ -177,7 +177,7 @@ fn head_size(code: u8) -> usize
         1 | 3 => 2,
         2 | 5 | 7 => 8,
         4 => 21,
-        8 | 10 | 11 => 24,
+        8 | 10 | 11 | 21 => 24,
         9 => 46,
         13 | 14 => 4,
         _ => 0,
@@ -185,7 +185,7 @@ fn head_size(code: u8) -> usize
 }
 
 fn known(code: u8) -> bool {
-    (1 <= code && code <= 14) || code == 17
+    (1 <= code && code <= 14) || code == 17 || code == 21
 }
 
 // A call whose fields are the next n bytes, at most so many.
