@@ -34,6 +34,7 @@ fn name(call: &Call) -> &'static str {
         Call::OwnAck(..) => "own ack",
         Call::Step => "step",
         Call::StepBack => "back",
+        Call::Tested(_) => "tested",
     }
 }
 

@@ -438,6 +438,10 @@ impl Player {
                 }
             }
             Call::Lookup(point) => found(self.originals.lookup(&point), tree.lookup(&point)),
+            Call::Tested(point) => {
+                let (original, plain) = (self.originals.tested(&point), tree.tested(&point));
+                format!("tested {}", agreed("cubes tested", Ok(original), Ok(plain))?)
+            }
             Call::LookupReplaced(leaf, action, point) => {
                 let plain = tree.lookup_replaced(leaf as usize, action, &point)?;
                 let original = self.originals.lookup_replaced(leaf as usize, &action, &point);

@@ -371,6 +371,24 @@ impl Originals {
         self.tree.borrow().action(&to_point(point)).as_ref().map(of_action)
     }
 
+    /// How many cubes `_action` tests, over the originals' own nodes and children.
+    pub fn tested(&mut self, point: &Point) -> usize {
+        self.note_zero(point);
+        let (point, tested) = (to_point(point), Cell::new(0));
+        let tree = self.tree.borrow();
+        let nodes = tree.field_nodes();
+        let holds = |node: usize| {
+            tested.set(tested.get() + 1);
+            let (RuleTreeNode::Leaf { domain, .. } | RuleTreeNode::Node { domain, .. }) = &nodes[node];
+            domain.contains(&point)
+        };
+        let mut reached = Some(0).filter(|root| holds(*root));
+        while let Some(RuleTreeNode::Node { children, .. }) = reached.map(|node| &nodes[node]) {
+            reached = children.iter().copied().find(|child| holds(*child));
+        }
+        tested.get()
+    }
+
     pub fn lookup_replaced(&mut self, node: usize, action: &Action, point: &Point) -> Option<Action> {
         self.note_zero(point);
         let mut tree = self.tree.borrow_mut();

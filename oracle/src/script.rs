@@ -26,6 +26,7 @@ pub enum Call {
     Wake(f64),
     Lookup(Point),
     LookupReplaced(u16, Action, Point),
+    Tested(Point),
     Tally(Point),
     Candidate(Action, u32),
     PrintTree,
@@ -172,6 +173,7 @@ impl<'a> Reader<'a> {
             20 => Call::OwnAck(self.f64()?, self.f64()?),
             23 => Call::Step,
             24 => Call::StepBack,
+            21 => Call::Tested(self.point()?),
             _ => return Err(BadScript),
         }))
     }
@@ -317,6 +319,10 @@ impl Writer {
             }
             Call::Step => self.bytes.push(23),
             Call::StepBack => self.bytes.push(24),
+            Call::Tested(point) => {
+                self.bytes.push(21);
+                self.point(point);
+            }
         }
     }
 }

@@ -55,6 +55,7 @@ pub fn run() -> i32 {
         undone,
         small_trees,
         even_rows,
+        tested,
         versions,
         ends,
         changed,
@@ -827,6 +828,25 @@ fn changed(t: &mut Table) {
     let drilled = few(2, 0, true);
     let calls = [counts(), change(few(2, 0, false)), Call::Counts(vec![5, 0, 0, 0, 0, 0, 0, 0, 0])];
     t.row("phase 2 stays where drilling is off", answers(&drilled, &calls), "ok; ok; refused 4");
+}
+
+fn tested(t: &mut Table) {
+    let s = few(3, 1, false);
+    let ask = |splits: &[usize], point: Point| {
+        answers(&s, &[Call::Load(grown(splits).record()), Call::Tested(point)])
+    };
+    for (name, splits, point, want) in [
+        ("the root alone", &[][..], [0.0; 3], 1),
+        ("outside", &[0], [600.0, 0.0, 0.0], 1),
+        ("NaN", &[0], [0.0, f64::NAN, 0.0], 1),
+        ("the first child", &[0], [0.0; 3], 2),
+        ("-0", &[0], [-0.0; 3], 2),
+        ("the last child", &[0], [300.0, 300.0, 500.0], 9),
+        ("the first of the last", &[0, 8], [300.0, 300.0, 500.0], 10),
+        ("the last of the last", &[0, 8], [599.0, 599.0, 999.0], 17),
+    ] {
+        t.row(&format!("cubes tested: {name}"), ask(splits, point), format!("loaded; tested {want}"));
+    }
 }
 
 fn versions(t: &mut Table) {

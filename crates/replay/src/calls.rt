@@ -214,8 +214,19 @@ fn wake(r: Replay, fields: &[u8], out: &mut [u8]) -> Replay {
 fn lookup(r: Replay, fields: &[u8], out: &mut [u8]) -> Replay {
     let trainer = r.trainer;
     let tree = trainer.tree;
-    let found = tree.action(input::point_at(fields, 0));
+    let opened = tree.action(input::point_at(fields, 0));
+    let found = opened.found;
     let at = lines::looked(out, r.at, found);
+    printed(r, at)
+}
+
+// The cubes that a lookup tests.
+fn cubes_tested(r: Replay, fields: &[u8], out: &mut [u8]) -> Replay {
+    let trainer = r.trainer;
+    let tree = trainer.tree;
+    let opened = tree.action(input::point_at(fields, 0));
+    let found = opened.found;
+    let at = lines::tested(out, r.at, found, opened.tested);
     printed(r, at)
 }
 
@@ -344,6 +355,7 @@ fn tree_call(r: Replay, code: u8, fields: &[u8], out: &mut [u8]) -> Replay {
         11 => candidate(r, fields, out),
         12 => print_tree(r, out),
         17 => undo_split(r, out),
+        21 => cubes_tested(r, fields, out),
         _ => equal(r, fields, out),
     }
 }

@@ -179,6 +179,16 @@ pub(crate) fn looked(out: &mut [u8], at: usize, found: Looked) -> usize {
     }
 }
 
+pub(crate) fn tested(out: &mut [u8], at: usize, found: Looked, n: u32) -> usize {
+    match found {
+        Looked::Refused(number) => refused(out, at, number),
+        _ => {
+            let next = output::named(out, at, b"tested", n as u64);
+            output::end_line(out, next)
+        }
+    }
+}
+
 pub(crate) fn candidate(out: &mut [u8], at: usize, c: Candidate) -> usize {
     match c {
         Candidate::At(length, a) => {

@@ -412,7 +412,7 @@ pub fn cut(mut dice: Dice) -> Vec<u8> {
     let others: Vec<_> = KINDS
         .iter()
         .filter(|(name, _)| {
-            !["cut", "undo", "ends", "apply", "lists", "even", "change", "draws"].contains(name)
+            !["cut", "undo", "ends", "apply", "lists", "even", "change", "draws", "tested"].contains(name)
         })
         .collect();
     let (_, author) = others[dice.below(others.len())];
@@ -629,6 +629,35 @@ pub fn change(dice: Dice) -> Vec<u8> {
             4..=7 => author.change_settings(),
             8 => author.bad_answer(),
             _ => author.finish(6, 0),
+        }
+    }
+    author.done()
+}
+
+/// Cubes tested: of points on edges, in middles and outside, in trees of every depth, with ends of every sort.
+pub fn tested(mut dice: Dice) -> Vec<u8> {
+    let mut settings = small_settings(&mut dice, 2);
+    if dice.one_in(2) {
+        settings.ends = values::ends(&mut dice);
+    }
+    let header = calm_header(settings, &mut dice);
+    let mut author = Author::new(dice, &header);
+    for _ in 0..author.dice.within(4, 60) {
+        match author.dice.below(12) {
+            0 => {
+                let splits = author.dice.pick(&[1, 2, 8, 40, 64]);
+                author.load_crafted(splits);
+            }
+            1 => author.good_answer(),
+            2 => {
+                let point = author.trainer.settings.ends.map(f64::next_down);
+                author.call(Call::Tested(point));
+            }
+            3 => author.aside(),
+            _ => {
+                let point = author.point();
+                author.call(Call::Tested(point));
+            }
         }
     }
     author.done()

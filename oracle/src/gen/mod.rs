@@ -28,6 +28,7 @@ pub const KINDS: &[(&str, fn(Dice) -> Vec<u8>)] = &[
     ("even", kinds::even),
     ("change", kinds::change),
     ("draws", kinds::draws),
+    ("tested", kinds::tested),
 ];
 
 /// None where there is no such kind.

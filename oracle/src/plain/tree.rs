@@ -63,6 +63,21 @@ impl Tree {
         Some(node)
     }
 
+    /// The cubes that a lookup tests: the root's, then those of children in order up to the one that holds the point.
+    pub fn tested(&self, point: &Point) -> usize {
+        let mut tested = 1;
+        if self.nodes[0].cube.contains(point) {
+            let mut node = 0;
+            while let Kind::Parent { child, .. } = self.nodes[node].kind {
+                let place =
+                    (0..8).find(|k| self.nodes[child + k].cube.contains(point)).expect("a child holds it");
+                tested += place + 1;
+                node = child + place;
+            }
+        }
+        tested
+    }
+
     pub fn lookup(&self, point: &Point) -> Option<Action> {
         self.reached(point).map(|node| self.leaf(node).unwrap().0)
     }
