@@ -3,7 +3,7 @@ use mathlib.Core.Path.{_≡_}
 use mathlib.Core.Bool.{Bool, true, false, _&&_, cond}
 use mathlib.Core.List.{List, [], _∷_, map}
 use lib.Dec.{T}
-use lib.Ieee.{Float, binary64, sub, div, le, lt}
+use lib.Ieee.{Float, binary64, sub, div, lt}
 use Rattle.floats.specs.Interval.{within}
 use Rattle.quantities.specs.Time.{admitted, readMoment}
 use Rattle.remy.specs.declared.point.Point.{Point}
