@@ -26,6 +26,7 @@ fn name(call: &Call) -> &'static str {
         Call::Load(_) => "load",
         Call::Equal(_) => "equal",
         Call::UndoSplit => "undo",
+        Call::Leaves(..) => "leaves",
     }
 }
 

@@ -1,6 +1,6 @@
 //! Replay scripts: how calls are written and read.
 
-use crate::plain::{Ack, Action, Point, Repeat, Settings};
+use crate::plain::{Ack, Action, Point, Ranges, Repeat, Settings};
 
 const LONGEST_COUNTS: usize = 600;
 const LONGEST_RECORD: usize = 16_500;
@@ -32,6 +32,8 @@ pub enum Call {
     Load(Vec<u8>),
     Equal(Vec<u8>),
     UndoSplit,
+    /// Ranges, and the length of the lent list.
+    Leaves(Ranges, u16),
 }
 
 #[derive(Debug)]
@@ -82,6 +84,11 @@ impl<'a> Reader<'a> {
 
     fn point(&mut self) -> Result<Point, BadScript> {
         Ok([self.f64()?, self.f64()?, self.f64()?])
+    }
+
+    fn ranges(&mut self) -> Result<Ranges, BadScript> {
+        let mut range = || Ok([self.f64()?, self.f64()?]);
+        Ok([range()?, range()?, range()?])
     }
 
     pub fn header(&mut self) -> Result<Header, BadScript> {
@@ -143,6 +150,7 @@ impl<'a> Reader<'a> {
             13 => Call::Load(self.record()?),
             14 => Call::Equal(self.record()?),
             17 => Call::UndoSplit,
+            18 => Call::Leaves(self.ranges()?, self.u16()?),
             _ => return Err(BadScript),
         }))
     }
@@ -253,6 +261,13 @@ impl Writer {
                 self.record(record);
             }
             Call::UndoSplit => self.bytes.push(17),
+            Call::Leaves(ranges, length) => {
+                self.bytes.push(18);
+                for end in ranges.iter().flatten() {
+                    self.f64(*end);
+                }
+                self.bytes.extend(length.to_be_bytes());
+            }
         }
     }
 }

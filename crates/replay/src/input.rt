@@ -2,6 +2,8 @@
 // end of the bytes reads as 0.
 ghost use Prim.Native.Nat.{_+_, _≤_, _<_};
 ghost use Rattle.io.specs.Counts.{Counts};
+use ranges::Range;
+use ranges::Ranges;
 use remy::action::Action;
 use remy::point::Point;
 use sender::Draw;
@@ -29,6 +31,13 @@ pub(crate) fn among(n: usize, numbers: &[u64]) -> usize
     ensures { λ r. ⌜ Counts r (now (numbers .entry)) ⌝ }
 {
     if n <= numbers.len() { n } else { numbers.len() }
+}
+
+// The same of nodes.
+pub(crate) fn among_nodes(n: usize, nodes: &[u16]) -> usize
+    ensures { λ r. ⌜ Counts r (now (nodes .entry)) ⌝ }
+{
+    if n <= nodes.len() { n } else { nodes.len() }
 }
 
 // Whether the script has n bytes more; they are put at the start of the buffer.
@@ -107,6 +116,27 @@ pub(crate) fn point_at(bytes: &[u8], at: usize) -> Point
     Point::new(ack, send, ratio)
 }
 
+fn range_at(bytes: &[u8], at: usize) -> Range
+    requires { ⌜ at + 16 ≤ 65536 ⌝ }
+{
+    let lowest = float_at(bytes, at);
+    let highest = float_at(bytes, at + 8);
+    Range { lowest, highest }
+}
+
+pub(crate) fn ranges_at(bytes: &[u8], at: usize) -> Ranges
+    requires { ⌜ at + 48 ≤ 65536 ⌝ }
+{
+    let ack_ewma = range_at(bytes, at);
+    let send_ewma = range_at(bytes, at + 16);
+    let rtt_ratio = range_at(bytes, at + 32);
+    Ranges {
+        ack_ewma,
+        send_ewma,
+        rtt_ratio,
+    }
+}
+
 // Every drill byte but 1 reads as false.
 pub(crate) fn settings_at(bytes: &[u8]) -> Settings {
     let rule_splits = word_at(bytes, 0) as u32;
@@ -171,7 +201,7 @@ pub(crate) fn numbers_at(bytes: &[u8]) -> [u64; 600] {
 
 // How many bytes follow a call's code; for codes 1, 13 and 14 those that say how many more do.
 fn head_size(code: u8) -> usize
-    ensures { λ r. ⌜ r ≤ 46 ⌝ }
+    ensures { λ r. ⌜ r ≤ 50 ⌝ }
 {
     match code {
         1 | 3 => 2,
@@ -180,12 +210,13 @@ fn head_size(code: u8) -> usize
         8 | 10 | 11 => 24,
         9 => 46,
         13 | 14 => 4,
+        18 => 50,
         _ => 0,
     }
 }
 
 fn known(code: u8) -> bool {
-    (1 <= code && code <= 14) || code == 17
+    (1 <= code && code <= 14) || code == 17 || code == 18
 }
 
 // A call whose fields are the next n bytes, at most so many.

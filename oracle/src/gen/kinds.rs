@@ -409,7 +409,7 @@ pub fn limits(dice: Dice) -> Vec<u8> {
 
 /// A script of another kind that is cut, or goes on with what is no call.
 pub fn cut(mut dice: Dice) -> Vec<u8> {
-    let others: Vec<_> = KINDS.iter().filter(|(name, _)| !["cut", "undo", "ends"].contains(name)).collect();
+    let others: Vec<_> = KINDS.iter().filter(|(name, _)| !["cut", "undo", "ends", "ranges"].contains(name)).collect();
     let (_, author) = others[dice.below(others.len())];
     let mut script = author(Dice(dice.next()));
     if dice.one_in(2) {
@@ -533,6 +533,25 @@ pub fn ends(mut dice: Dice) -> Vec<u8> {
             11 => author.aside(),
             _ => author.good_answer(),
         }
+    }
+    author.done()
+}
+
+/// Leaves within ranges: of trees that answers grew and of loaded ones, deep ones among them.
+pub fn ranges(dice: Dice) -> Vec<u8> {
+    let mut author = Author::small(dice);
+    for _ in 0..author.dice.within(3, 30) {
+        match author.dice.below(8) {
+            0 => {
+                let splits = author.some_splits();
+                author.load_crafted(splits);
+            }
+            1 => author.finish(8, 0),
+            2 => author.aside(),
+            _ => {}
+        }
+        let call = author.leaves();
+        author.call(call);
     }
     author.done()
 }

@@ -23,6 +23,7 @@ pub const KINDS: &[(&str, fn(Dice) -> Vec<u8>)] = &[
     ("mixed", kinds::mixed),
     ("undo", kinds::undo),
     ("ends", kinds::ends),
+    ("ranges", kinds::ranges),
 ];
 
 /// None where there is no such kind.
