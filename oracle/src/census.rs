@@ -35,6 +35,7 @@ fn name(call: &Call) -> &'static str {
         Call::Step => "step",
         Call::StepBack => "back",
         Call::Tested(_) => "tested",
+        Call::Leaves(..) => "leaves",
     }
 }
 

@@ -12,8 +12,8 @@ use flowforge::{
 
 use crate::{
     plain::{
-        bits, even_row, next_list, tree_of, Ack, Action, Answer, Generator, Phase, Refused, Sender, Trainer,
-        Tree,
+        bits, even_row, next_list, tree_of, Ack, Action, Answer, Generator, Phase, Ranges, Refused, Sender,
+        Trainer, Tree,
     },
     rust::{self, disagree, grow, of_action, same_sender, same_tree, shown, to_action, Originals, Shown},
     script::{repeat, Call, Reader},
@@ -500,6 +500,14 @@ impl Player {
                     next.iter().fold("next".to_owned(), |line, node| format!("{line} {node}"))
                 })
             }
+            Call::Leaves(ranges, length) => {
+                let places = length as usize;
+                let original = leaves_within(&self.originals.tree.borrow(), &ranges, places);
+                let found =
+                    agreed("the leaves within ranges", original, tree.leaves_within(&ranges, places))?;
+                let nodes: String = found.iter().map(|node| format!(" {node}")).collect();
+                format!("leaves {}{nodes}", found.len())
+            }
             Call::Equal(record) => {
                 let other = Trainer::load(&record)?;
                 let original = self.originals.equal(&other);
@@ -560,6 +568,27 @@ fn tree_lines(original: &RuleTree, plain: &Tree) -> String {
         }
     }
     text
+}
+
+/// The leaves whose cubes the ranges meet, by the ends that the originals have of them.
+fn leaves_within(original: &RuleTree, ranges: &Ranges, places: usize) -> Result<Vec<usize>, Refused> {
+    if !ranges.iter().all(|[lowest, highest]| lowest <= highest) {
+        return Err(28);
+    }
+    let mut found = Vec::new();
+    for (number, node) in shown(original).enumerate() {
+        let meets = (0..3).all(|axis| {
+            let ([lowest, highest], min, max) = (ranges[axis], node.ends[axis], node.ends[axis + 3]);
+            lowest < max && min <= highest && min < max
+        });
+        if meets && matches!(node.kind, Shown::Leaf { .. }) {
+            found.push(number);
+        }
+    }
+    if found.len() > places {
+        return Err(29);
+    }
+    Ok(found)
 }
 
 /// Both sides' answer, which is one.

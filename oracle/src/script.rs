@@ -1,6 +1,6 @@
 //! Replay scripts: how calls are written and read.
 
-use crate::plain::{Ack, Action, Point, Repeat, Settings};
+use crate::plain::{Ack, Action, Point, Ranges, Repeat, Settings};
 
 const LONGEST_COUNTS: usize = 600;
 const LONGEST_RECORD: usize = 16_500;
@@ -43,6 +43,8 @@ pub enum Call {
     OwnAck(f64, f64),
     Step,
     StepBack,
+    /// Ranges, and the length of the lent list.
+    Leaves(Ranges, u16),
 }
 
 #[derive(Debug)]
@@ -93,6 +95,11 @@ impl<'a> Reader<'a> {
 
     fn point(&mut self) -> Result<Point, BadScript> {
         Ok([self.f64()?, self.f64()?, self.f64()?])
+    }
+
+    fn ranges(&mut self) -> Result<Ranges, BadScript> {
+        let mut range = || Ok([self.f64()?, self.f64()?]);
+        Ok([range()?, range()?, range()?])
     }
 
     fn settings(&mut self) -> Result<(Settings, u8), BadScript> {
@@ -174,6 +181,7 @@ impl<'a> Reader<'a> {
             23 => Call::Step,
             24 => Call::StepBack,
             21 => Call::Tested(self.point()?),
+            18 => Call::Leaves(self.ranges()?, self.u16()?),
             _ => return Err(BadScript),
         }))
     }
@@ -322,6 +330,13 @@ impl Writer {
             Call::Tested(point) => {
                 self.bytes.push(21);
                 self.point(point);
+            }
+            Call::Leaves(ranges, length) => {
+                self.bytes.push(18);
+                for end in ranges.iter().flatten() {
+                    self.f64(*end);
+                }
+                self.bytes.extend(length.to_be_bytes());
             }
         }
     }

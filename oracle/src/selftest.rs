@@ -56,6 +56,7 @@ pub fn run() -> i32 {
         small_trees,
         even_rows,
         tested,
+        leaves,
         versions,
         ends,
         changed,
@@ -847,6 +848,25 @@ fn tested(t: &mut Table) {
     ] {
         t.row(&format!("cubes tested: {name}"), ask(splits, point), format!("loaded; tested {want}"));
     }
+}
+
+fn leaves(t: &mut Table) {
+    let s = few(3, 1, false);
+    let once = grown(&[0]);
+    let all = [f64::NEG_INFINITY, f64::INFINITY];
+    let within = |ranges: [[f64; 2]; 3], places: u16| {
+        let calls = [Call::Load(once.record()), Call::Leaves(ranges, places)];
+        answers(&s, &calls).trim_start_matches("loaded; ").to_owned()
+    };
+    t.row("all of it", within([all; 3], 8), "leaves 8 1 2 3 4 5 6 7 8");
+    t.row("seven places", within([all; 3], 7), "refused 29");
+    let zero = [0.0; 2];
+    t.row("acks up to the middle", within([[0.0, 300.0], zero, zero], 8), "leaves 2 1 5");
+    t.row("acks from the middle", within([[300.0, 600.0], zero, zero], 8), "leaves 1 5");
+    t.row("acks from the upper end", within([[600.0, 700.0], zero, zero], 8), "leaves 0");
+    t.row("-0", within([[-0.0; 2]; 3], 1), "leaves 1 1");
+    t.row("NaN, no places", within([zero, [0.0, f64::NAN], zero], 0), "refused 28");
+    t.row("1 to 0", within([zero, zero, [1.0, 0.0]], 0), "refused 28");
 }
 
 fn versions(t: &mut Table) {

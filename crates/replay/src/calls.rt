@@ -3,6 +3,8 @@ use crate::draws;
 use crate::input;
 use crate::lines;
 use crate::trees;
+use ranges::Leaves;
+use ranges::Ranges;
 use record::Saved;
 use rule_tree::AugmentedRuleTree;
 use rule_tree::Changed;
@@ -294,6 +296,28 @@ fn undo_split(r: Replay, out: &mut [u8]) -> Replay {
     printed(r, at)
 }
 
+// The leaves within ranges, into a lent list, and their line.
+fn leaves_line(out: &mut [u8], at: usize, t: RuleTree, r: Ranges, list: &mut [u16]) -> usize {
+    match ranges::leaves_within(t, r, list) {
+        Leaves::Found(n) => {
+            let k = input::among_nodes(n as usize, list);
+            lines::leaves(out, at, n, &list[..k])
+        }
+        Leaves::Refused(number) => lines::refused(out, at, number),
+    }
+}
+
+// No tree has more than 513 leaves, so a longer list is lent as one of 513.
+fn leaves(r: Replay, fields: &[u8], out: &mut [u8]) -> Replay {
+    let trainer = r.trainer;
+    let tree = trainer.tree;
+    let known = input::ranges_at(fields, 0);
+    let mut list = [0u16; 513];
+    let k = input::among_nodes(input::short_at(fields, 48) as usize, &list);
+    let at = leaves_line(out, r.at, tree, known, &mut list[..k]);
+    printed(r, at)
+}
+
 fn equal_line(out: &mut [u8], at: usize, t: RuleTree, a: Answered) -> usize {
     if a.refused == 0 {
         let loaded = a.trainer;
@@ -355,6 +379,7 @@ fn tree_call(r: Replay, code: u8, fields: &[u8], out: &mut [u8]) -> Replay {
         11 => candidate(r, fields, out),
         12 => print_tree(r, out),
         17 => undo_split(r, out),
+        18 => leaves(r, fields, out),
         21 => cubes_tested(r, fields, out),
         _ => equal(r, fields, out),
     }

@@ -2,6 +2,8 @@
 // end of the bytes reads as 0.
 ghost use Prim.Native.Nat.{_+_, _≤_, _<_};
 ghost use Rattle.io.specs.Counts.{Counts};
+use ranges::Range;
+use ranges::Ranges;
 use remy::action::Action;
 use remy::point::Point;
 use sender::Draw;
@@ -29,6 +31,13 @@ pub(crate) fn among(n: usize, numbers: &[u64]) -> usize
     ensures { λ r. ⌜ Counts r (now (numbers .entry)) ⌝ }
 {
     if n <= numbers.len() { n } else { numbers.len() }
+}
+
+// The same of nodes.
+pub(crate) fn among_nodes(n: usize, nodes: &[u16]) -> usize
+    ensures { λ r. ⌜ Counts r (now (nodes .entry)) ⌝ }
+{
+    if n <= nodes.len() { n } else { nodes.len() }
 }
 
 // Whether the script has n bytes more; they are put at the start of the buffer.
@@ -107,6 +116,27 @@ pub(crate) fn point_at(bytes: &[u8], at: usize) -> Point
     Point::new(ack, send, ratio)
 }
 
+fn range_at(bytes: &[u8], at: usize) -> Range
+    requires { ⌜ at + 16 ≤ 65536 ⌝ }
+{
+    let lowest = float_at(bytes, at);
+    let highest = float_at(bytes, at + 8);
+    Range { lowest, highest }
+}
+
+pub(crate) fn ranges_at(bytes: &[u8], at: usize) -> Ranges
+    requires { ⌜ at + 48 ≤ 65536 ⌝ }
+{
+    let ack_ewma = range_at(bytes, at);
+    let send_ewma = range_at(bytes, at + 16);
+    let rtt_ratio = range_at(bytes, at + 32);
+    Ranges {
+        ack_ewma,
+        send_ewma,
+        rtt_ratio,
+    }
+}
+
 // Every drill byte but 1 reads as false.
 pub(crate) fn settings_at(bytes: &[u8]) -> Settings {
     let rule_splits = word_at(bytes, 0) as u32;
@@ -183,6 +213,7 @@ fn head_size(code: u8) -> usize
         20 => 16,
         13 | 14 => 4,
         15 => 137,
+        18 => 50,
         _ => 0,
     }
 }
@@ -190,7 +221,7 @@ fn head_size(code: u8) -> usize
 fn known(code: u8) -> bool {
     match code {
         0 => false,
-        17 | 19 | 20 | 21 | 22 | 23 | 24 | 25 | 26 => true,
+        17 | 18 | 19 | 20 | 21 | 22 | 23 | 24 | 25 | 26 => true,
         _ => code <= 15,
     }
 }

@@ -215,6 +215,27 @@ pub(crate) fn counted(out: &mut [u8], at: usize, node: u16, counts: &[u64]) -> u
     at
 }
 
+fn leaf(out: &mut [u8], at: usize, node: u16) -> usize {
+    output::number(out, at, node as u64)
+}
+
+// Nodes, each behind a space.
+fn nodes(out: &mut [u8], at: usize, list: &[u16]) -> usize {
+    let mut next = at;
+    let mut i: usize = 0;
+    while i < list.len() {
+        next = leaf(out, next, list[i]);
+        i += 1;
+    }
+    next
+}
+
+pub(crate) fn leaves(out: &mut [u8], at: usize, n: u16, list: &[u16]) -> usize {
+    let next = output::named(out, at, b"leaves", n as u64);
+    let next = nodes(out, next, list);
+    output::end_line(out, next)
+}
+
 pub(crate) fn compared(out: &mut [u8], at: usize, c: Compared) -> usize {
     match c {
         Compared::Same(same) => number_line(out, at, b"equal", if same { 1 } else { 0 }),

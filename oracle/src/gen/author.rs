@@ -7,7 +7,7 @@ use super::{
     Dice,
 };
 use crate::{
-    plain::{Ack, Answer, Generator, Phase, Point, Repeat, Sender, Trainer},
+    plain::{Ack, Answer, Generator, Phase, Point, Ranges, Repeat, Sender, Trainer},
     script::{repeat, Call, Header, Writer},
 };
 
@@ -287,6 +287,35 @@ impl Author {
                 _ => dice.pick(&[min, (min + max) / 2.0, -0.0, 0.0]),
             }
         })
+    }
+
+    /// Ranges between two points, without an end or with equal ones, now and then no ranges, and a list that is
+    /// long enough or nearly so.
+    pub fn leaves(&mut self) -> Call {
+        let (one, other) = (self.point(), self.point());
+        let style = self.dice.below(5);
+        let dice = &mut self.dice;
+        let mut ranges: Ranges = std::array::from_fn(|axis| {
+            let (low, high) = (one[axis].min(other[axis]), one[axis].max(other[axis]));
+            match if style == 0 { 0 } else { dice.below(7) } {
+                0 => [low, low],
+                1 => [f64::NEG_INFINITY, high],
+                2 => [low, f64::INFINITY],
+                3 => [f64::NEG_INFINITY, f64::INFINITY],
+                _ => [low, high],
+            }
+        });
+        if dice.one_in(10) {
+            let axis = dice.below(3);
+            match dice.below(3) {
+                0 => ranges[axis].reverse(),
+                1 => ranges[axis][0] = f64::NAN,
+                _ => ranges[axis][1] = f64::NAN,
+            }
+        }
+        let found = self.trainer.tree.leaves_within(&ranges, usize::MAX).map_or(0, |found| found.len());
+        let lengths = [found, found, found + 1, found.saturating_sub(1), 0, 513, 514, 65_535];
+        Call::Leaves(ranges, self.dice.pick(&lengths) as u16)
     }
 
     pub fn moment(&mut self) -> f64 {

@@ -412,7 +412,8 @@ pub fn cut(mut dice: Dice) -> Vec<u8> {
     let others: Vec<_> = KINDS
         .iter()
         .filter(|(name, _)| {
-            !["cut", "undo", "ends", "apply", "lists", "even", "change", "draws", "tested"].contains(name)
+            !["cut", "undo", "ends", "apply", "lists", "even", "change", "draws", "tested", "ranges"]
+                .contains(name)
         })
         .collect();
     let (_, author) = others[dice.below(others.len())];
@@ -659,6 +660,25 @@ pub fn tested(mut dice: Dice) -> Vec<u8> {
                 author.call(Call::Tested(point));
             }
         }
+    }
+    author.done()
+}
+
+/// Leaves within ranges: of trees that answers grew and of loaded ones, deep ones among them.
+pub fn ranges(dice: Dice) -> Vec<u8> {
+    let mut author = Author::small(dice);
+    for _ in 0..author.dice.within(3, 30) {
+        match author.dice.below(8) {
+            0 => {
+                let splits = author.some_splits();
+                author.load_crafted(splits);
+            }
+            1 => author.finish(8, 0),
+            2 => author.aside(),
+            _ => {}
+        }
+        let call = author.leaves();
+        author.call(call);
     }
     author.done()
 }

@@ -29,6 +29,7 @@ pub const KINDS: &[(&str, fn(Dice) -> Vec<u8>)] = &[
     ("change", kinds::change),
     ("draws", kinds::draws),
     ("tested", kinds::tested),
+    ("ranges", kinds::ranges),
 ];
 
 /// None where there is no such kind.

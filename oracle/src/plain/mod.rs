@@ -44,6 +44,9 @@ pub fn admitted(moment: f64) -> Result<f64, Refused> {
 /// Ack average, send average, ratio.
 pub type Point = [f64; 3];
 
+/// Of each axis the lowest and the highest value.
+pub type Ranges = [[f64; 2]; 3];
+
 #[derive(Clone, Copy, Debug)]
 pub struct Cube {
     pub min: Point,

@@ -1,4 +1,4 @@
-use super::{Action, Cube, Point, Refused};
+use super::{Action, Cube, Point, Ranges, Refused};
 
 pub const SPLITS: usize = 64;
 const TOTAL: u64 = 1 << 53;
@@ -76,6 +76,24 @@ impl Tree {
             }
         }
         tested
+    }
+
+    /// The leaves that some point within the ranges reaches, for a list with so many places. Where there is
+    /// such a point, the one of the greater lower ends is one.
+    pub fn leaves_within(&self, ranges: &Ranges, places: usize) -> Result<Vec<usize>, Refused> {
+        if ranges.iter().any(|[lowest, highest]| lowest.is_nan() || highest.is_nan() || lowest > highest) {
+            return Err(28);
+        }
+        let within = |cube: &Cube| {
+            let point: Point = std::array::from_fn(|axis| cube.min[axis].max(ranges[axis][0]));
+            cube.contains(&point) && (0..3).all(|axis| point[axis] <= ranges[axis][1])
+        };
+        let found: Vec<usize> =
+            self.leaves().map(|leaf| leaf.0).filter(|&node| within(&self.nodes[node].cube)).collect();
+        if found.len() > places {
+            return Err(29);
+        }
+        Ok(found)
     }
 
     pub fn lookup(&self, point: &Point) -> Option<Action> {
