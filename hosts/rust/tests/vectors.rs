@@ -182,7 +182,7 @@ fn call(script: &mut Script, trainer: &mut Trainer, sender: &mut Sender) -> Resu
             Gives::Lines(vec![Trainer::load(script.take(n)?).map_or_else(refused, same)])
         }
         7 => script.take(8).map(|_| Gives::Passes)?,
-        10 => script.take(24).map(|_| Gives::Passes)?,
+        10 | 21 => script.take(24).map(|_| Gives::Passes)?,
         12 => Gives::Tree(trainer.clone()),
         17 => {
             let mut copy = trainer.clone();
