@@ -186,7 +186,7 @@ fn call(script: &mut Script, trainer: &mut Trainer, sender: &mut Sender) -> Resu
             answered(trainer, r)
         }
         7 => script.take(8).map(|_| Gives::Passes)?,
-        10 | 22 => script.take(24).map(|_| Gives::Passes)?,
+        10 | 21 | 22 => script.take(24).map(|_| Gives::Passes)?,
         12 => Gives::Tree(trainer.clone()),
         17 => {
             let mut copy = trainer.clone();

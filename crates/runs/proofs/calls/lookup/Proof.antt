@@ -19,15 +19,15 @@ action-requires : tie.Need-action-requires
 action-requires c κs = tt
 
 put-looked-requires : tie.Need-put-looked-requires
-put-looked-requires c κs = c .before .before .before .before .before .before .before .before .before .before .pre
+put-looked-requires c κs = c .before .before .before .before .before .before .before .before .pre
 
 same-length : tie.Need-same-length
 same-length c = c .before .before .put-looked .kept .0
 
 returns : tie.Need-returns
 returns c =
-    let a = c .before .before .before .before .before in
-    let n = a .before .before in
+    let a = c .before .before .before .before in
+    let n = a .before in
     let s = n .before .before .before .before .before .before in
     law.looked (s .args .tree) (s .args .out .now) (s .args .at) (n .before .before .before .float .ensures) (n .before .before .float2 .ensures) (n .before .float3 .ensures)
     (n .new .ensures) (a .action .ensures) (c .before .before .put-looked .ensures)
