@@ -6,7 +6,7 @@ use mathlib.Core.List.{List, [], _∷_, map}
 use Prim.Native.Nat.{ℕ}
 use lib.IntN.{pos, negsuc}
 use lib.Dec.{T}
-use lib.Ieee.{Float, fin, add, sub, div, le, lt, eq, neg}
+use lib.Ieee.{Float, fin, binary64, add, sub, mul, div, le, lt, eq, neg}
 use lib.Ieee.Fits.{and-i}
 use Rattle.floats.specs.Interval.{within}
 use Rattle.floats.proofs.Order.{lt-le-trans}
@@ -142,3 +142,9 @@ needed t g e = record {
   under = (refl, rw (g, e) (_, refl, refl));
   far = (refl, rw (g, e) (_, refl, refl));
 }
+
+-- and the weights: 0.9 and 0.2 would make of 590 s and 590 s more than 600 s
+pub heavier-weights :
+    T (lt (whole 75 3) (add binary64 (mul binary64 (fin false 8106479329266893 (negsuc 52)) (whole 295 1)) (mul binary64 (fin false 3602879701896397 (negsuc 53)) (whole 295 1))))
+unfolding add mul lt
+heavier-weights = tt

@@ -5,6 +5,6 @@ pub mod Points
 pub mod Steps
 pub mod Taking
 pub mod Calls
-pub mod Settings
+pub mod Boxes
 pub mod OnTheWay
 pub mod Lens

@@ -21,20 +21,15 @@ use Rattle.promise.specs.Values.{Every, FitSettings, FitCall}
 use Rattle.promise.specs.SenderRuns.{senderEvents}
 use Rattle.promise.specs.Demand3.{treeAfter, plainTreeAfter, callsOver}
 use Rattle.promise.proofs.TreeGrown.{grown-embeds}
-use Rattle.promise.proofs.Begins.{start-valid}
-use Rattle.promise.proofs.Fitting.{point-fits}
-use Rattle.promise.proofs.Runs.{end-valid}
 use Rattle.promise.proofs.Demand3.{way-valid, way-alike}
 use Rattle.chart_laws.specs.Chart.{ackTimes, OnChart, AcksOver, Charts, NoAckRefused}
-use Rattle.chart_laws.proofs.Settings.{round-has, settings-stay}
+use Rattle.chart_laws.proofs.Boxes.{round-has, ends-stay}
 use Rattle.chart_laws.proofs.Calls.{public-stays, times-over, none-over}
 
 -- ---- the trees on the way
 module _ (s : Settings) (h : settingsHold s ≡ true) (f : FitSettings s) (cs : List Call) (c : Every FitCall cs) (k : ℕ) where
   plain-ends : plainTreeAfter s cs k .ends ≡ s .ends
-  plain-ends =
-      end-valid (start s) (take k cs) (start-valid s h (point-fits (f .ends))) .box
-      ∙ ap (λ (x : Settings). x .ends) (settings-stay (start s) (take k cs) ∙ round-has s _ 0 0)
+  plain-ends = ends-stay (s .ends) (start s) (take k cs) (round-has (s .ends) s _ 0 0 refl)
 
   way-grown : grownOf (treeAfter s cs k) ≡ true
   way-grown = ap grownOf (way-alike s h f cs c k) ∙ grown-embeds (plainTreeAfter s cs k) (way-valid s h f cs c k)
