@@ -24,7 +24,7 @@ use Rattle.promise.proofs.Links.{no}
 use Rattle.promise.proofs.Embed.{embedTree, ValidTree}
 use Rattle.promise.proofs.TreeGrown.{grown-embeds}
 use Rattle.promise.proofs.SenderRun.{Over, embedCalls, sender-agrees}
-use Rattle.chart_laws.specs.Chart.{Times, ackTimes, roundTrip, allAbove, ratiosAfter, ratiosHold, OnChart, AcksOver, Charts, AcksTaken, NoAckRefused}
+use Rattle.chart_laws.specs.Chart.{Times, ackTimes, roundTrip, allAbove, ratiosAfter, ratiosHold, OnChart, AcksOver, GrownWith, AcksTaken, NoAckRefused}
 use Rattle.chart_laws.proofs.Quotient.{1f, quotient-one}
 use Rattle.chart_laws.proofs.Taking.{acks-taken}
 
@@ -43,7 +43,7 @@ none-from (ack t sent received draw ∷ cs) s a =
 none-from (send at ∷ cs) s a = (λ z. absurd (no false z refl), none-from cs (afterReply s (sendOf s at) .sender) a)
 none-from (tick ∷ cs) s a = (λ z. absurd (no false z refl), none-from cs (tickOf s .sender) a)
 
-pub public-stays : (ends : Point) (cs : List (SenderCall RuleTree)) → AcksOver (Charts ends) cs → OnChart ends (ackTimes cs)
+pub public-stays : (ends : Point) (cs : List (SenderCall RuleTree)) → AcksOver (GrownWith ends) cs → OnChart ends (ackTimes cs)
     → NoAckRefused cs (senderEvents (freshSender Off) cs)
 public-stays ends cs g h = none-from cs (freshSender Off) (acks-taken ends cs g h)
 
@@ -74,25 +74,25 @@ module _ {A B : Type 0} (tree : A → B) where
   acks-over P Q f (tick ∷ cs) h = acks-over P Q f cs h
 
 -- ---- the plain sender, over any valid plain trees with these ends
-pub record PlainCharts (ends : Point) (t : Tree) : Type 0 where
+pub record ValidWith (ends : Point) (t : Tree) : Type 0 where
   pub valid : ValidTree t
   pub same : pointEqual ends (t .ends) ≡ true
 
-all-valid : (ends : Point) (cs : List (SenderCall Tree)) → AcksOver (PlainCharts ends) cs → Over ValidTree cs
+all-valid : (ends : Point) (cs : List (SenderCall Tree)) → AcksOver (ValidWith ends) cs → Over ValidTree cs
 all-valid ends [] v = tt
 all-valid ends (ack t sent received draw ∷ cs) v = (v .0 .valid, all-valid ends cs (v .1))
 all-valid ends (send at ∷ cs) v = (tt, all-valid ends cs v)
 all-valid ends (tick ∷ cs) v = (tt, all-valid ends cs v)
 
-embed-charts : (ends : Point) (t : Tree) → PlainCharts ends t → Charts ends (embedTree t)
-embed-charts ends t v = record { grown = grown-embeds t (v .valid); same = v .same }
+embed-grown : (ends : Point) (t : Tree) → ValidWith ends t → GrownWith ends (embedTree t)
+embed-grown ends t v = record { grown = grown-embeds t (v .valid); same = v .same }
 
-pub plain-stays : (ends : Point) (cs : List (SenderCall Tree)) → AcksOver (PlainCharts ends) cs → OnChart ends (ackTimes cs)
+pub plain-stays : (ends : Point) (cs : List (SenderCall Tree)) → AcksOver (ValidWith ends) cs → OnChart ends (ackTimes cs)
     → NoAckRefused cs (plainSenderEvents (plainStart (freshSender Off)) cs)
 plain-stays ends cs v h =
     none-over embedTree cs (plainSenderEvents (plainStart (freshSender Off)) cs)
     (subst (NoAckRefused (embedCalls cs)) (sender-agrees (freshSender Off) cs (all-valid ends cs v) .0)
-    (public-stays ends (embedCalls cs) (acks-over embedTree (PlainCharts ends) (Charts ends) (embed-charts ends) cs v)
+    (public-stays ends (embedCalls cs) (acks-over embedTree (ValidWith ends) (GrownWith ends) (embed-grown ends) cs v)
     (subst (OnChart ends) (sym (times-over embedTree cs)) h)))
 
 -- ---- a first ack's ratio is 1: an upper end of exactly 1 admits no ack

@@ -14,7 +14,7 @@ use Rattle.remy.specs.Cube.{ack, send, ratio, leastEnd, pointEqual, rootOf, con
 use Rattle.remy.proofs.Ends.{ends-from-one, equal-ends}
 use Rattle.rule_tree.specs.declared.RuleTree.{RuleTree}
 use Rattle.rule_tree.proofs.Links.{grown-admitted}
-use Rattle.chart_laws.specs.Chart.{shorterOf, Charts}
+use Rattle.chart_laws.specs.Chart.{shorterOf, GrownWith}
 
 -- a value below an end is below what the end equals
 wider : (end d x : Float) → T (eq end d) → T (within 0f end x) → T (within 0f d x)
@@ -22,10 +22,10 @@ unfolding le
 wider end d x q w =
     and-i (le 0f x) (lt x d) (and-l (le 0f x) (lt x end) w) (lt-le-trans x end d (and-r (le 0f x) (lt x end) w) (or-r (lt end d) (eq end d) q))
 
-module _ (ends : Point) (t : RuleTree) (c : Charts ends t) where
+module _ (ends : Point) (t : RuleTree) (c : GrownWith ends t) where
   -- the ends are 1 or more
-  pub charted-from-one : T (le leastEnd (ack ends)) × (T (le leastEnd (send ends)) × T (le leastEnd (ratio ends)))
-  charted-from-one = ends-from-one ends (equal-ends ends (t .ends) (c .same) (grown-admitted t (c .grown)))
+  pub ends-one : T (le leastEnd (ack ends)) × (T (le leastEnd (send ends)) × T (le leastEnd (ratio ends)))
+  ends-one = ends-from-one ends (equal-ends ends (t .ends) (c .same) (grown-admitted t (c .grown)))
 
   -- a point in the box of these ends is in the tree's
   pub in-box : (p : Point) → T (within 0f (ack ends) (ack p)) → T (within 0f (send ends) (send p)) → T (within 0f (ratio ends) (ratio p))

@@ -33,7 +33,7 @@ use Rattle.sender.specs.Acks.{drawn, ackDrawn, ackWith, ackPending, ackAdmitted
 use Rattle.sender.specs.Sender.{freshSender, ackOf}
 use Rattle.sender.specs.SenderCall.{SenderCall}
 use Rattle.sender.specs.SenderCall as call
-use Rattle.chart_laws.specs.Chart.{Times, sentAt, receivedAt, roundTrip, allAdmitted, gapsAfter, gapsHold, allAbove, ratiosAfter, ratiosHold, OnChart, Charts, AcksTaken}
+use Rattle.chart_laws.specs.Chart.{Times, sentAt, receivedAt, roundTrip, allAdmitted, gapsAfter, gapsHold, allAbove, ratiosAfter, ratiosHold, OnChart, GrownWith, AcksTaken}
 use Rattle.chart_laws.proofs.Quotient.{1f}
 use Rattle.chart_laws.proofs.Taking.{acks-taken}
 
@@ -48,12 +48,12 @@ abbrev acksAt : RuleTree → Times → Times → Times → List (SenderCall Rule
 acksAt t x y z =
     call.ack t (x .sent) (x .received) Absent ∷ call.ack t (y .sent) (y .received) Absent ∷ call.ack t (z .sent) (z .received) Absent ∷ []
 
-fresh-charts : (ends : Point) (a : Action) → validOf a ≡ true → endsHold ends ≡ true → Charts ends (freshTree ends a)
-fresh-charts ends a v h = record { grown = fresh-grown ends a v h; same = ends-themselves ends (ends-admitted ends h) }
+fresh-with : (ends : Point) (a : Action) → validOf a ≡ true → endsHold ends ≡ true → GrownWith ends (freshTree ends a)
+fresh-with ends a v h = record { grown = fresh-grown ends a v h; same = ends-themselves ends (ends-admitted ends h) }
 
 three-taken : (ends : Point) (a : Action) → validOf a ≡ true → endsHold ends ≡ true → (x y z : Times) → OnChart ends (x ∷ y ∷ z ∷ [])
     → AcksTaken (freshSender Off) (acksAt (freshTree ends a) x y z)
-three-taken ends a v h x y z o = let g = fresh-charts ends a v h in acks-taken ends (acksAt (freshTree ends a) x y z) (g, (g, (g, tt))) o
+three-taken ends a v h x y z o = let g = fresh-with ends a v h in acks-taken ends (acksAt (freshTree ends a) x y z) (g, (g, (g, tt))) o
 
 -- ---- the usual ends: sent at 0, 1, 2 and received at 1, 3, 4; gaps of 2, 1 and of 1, 1; round trips 1, 2, 2; ratios 1, 2, 2
 pub seconds-usual : OnChart usualEnds (at (whole 0 0) (whole 1 0) ∷ at (whole 1 0) (whole 3 0) ∷ at (whole 1 1) (whole 1 2) ∷ [])

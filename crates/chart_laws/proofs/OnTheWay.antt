@@ -22,7 +22,7 @@ use Rattle.promise.specs.SenderRuns.{senderEvents}
 use Rattle.promise.specs.Demand3.{treeAfter, plainTreeAfter, callsOver}
 use Rattle.promise.proofs.TreeGrown.{grown-embeds}
 use Rattle.promise.proofs.Demand3.{way-valid, way-alike}
-use Rattle.chart_laws.specs.Chart.{ackTimes, OnChart, AcksOver, Charts, NoAckRefused}
+use Rattle.chart_laws.specs.Chart.{ackTimes, OnChart, AcksOver, GrownWith, NoAckRefused}
 use Rattle.chart_laws.proofs.Boxes.{round-has, ends-stay}
 use Rattle.chart_laws.proofs.Calls.{public-stays, times-over, none-over}
 
@@ -37,27 +37,27 @@ module _ (s : Settings) (h : settingsHold s ≡ true) (f : FitSettings s) (cs : 
   way-ends : treeAfter s cs k .ends ≡ s .ends
   way-ends = ap (λ (t : RuleTree). t .ends) (way-alike s h f cs c k) ∙ plain-ends
 
-  pub way-charts : Charts (s .ends) (treeAfter s cs k)
-  way-charts =
+  pub way-with : GrownWith (s .ends) (treeAfter s cs k)
+  way-with =
       let e = treeAfter s cs k .ends in
       record {
         grown = way-grown;
         same = ap (λ (x : Point). pointEqual x e) (sym way-ends) ∙ ends-themselves e (grown-admitted (treeAfter s cs k) way-grown);
       }
 
-module _ (ends : Point) (trees : ℕ → RuleTree) (all : (k : ℕ) → Charts ends (trees k)) where
-  all-chart : (ws : List (SenderCall ℕ)) → AcksOver (Charts ends) (callsOver trees ws)
+module _ (ends : Point) (trees : ℕ → RuleTree) (all : (k : ℕ) → GrownWith ends (trees k)) where
+  all-with : (ws : List (SenderCall ℕ)) → AcksOver (GrownWith ends) (callsOver trees ws)
   unfolding over
-  all-chart [] = tt
-  all-chart (ack k sent received draw ∷ ws) = (all k, all-chart ws)
-  all-chart (send at ∷ ws) = all-chart ws
-  all-chart (tick ∷ ws) = all-chart ws
+  all-with [] = tt
+  all-with (ack k sent received draw ∷ ws) = (all k, all-with ws)
+  all-with (send at ∷ ws) = all-with ws
+  all-with (tick ∷ ws) = all-with ws
 
   stays : (ws : List (SenderCall ℕ)) → OnChart ends (ackTimes ws) → NoAckRefused ws (senderEvents (freshSender Off) (callsOver trees ws))
   stays ws h =
       none-over trees ws (senderEvents (freshSender Off) (callsOver trees ws))
-      (public-stays ends (callsOver trees ws) (all-chart ws) (subst (OnChart ends) (sym (times-over trees ws)) h))
+      (public-stays ends (callsOver trees ws) (all-with ws) (subst (OnChart ends) (sym (times-over trees ws)) h))
 
 pub way-stays : (s : Settings) → settingsHold s ≡ true → FitSettings s → (cs : List Call) → Every FitCall cs → (ws : List (SenderCall ℕ))
     → OnChart (s .ends) (ackTimes ws) → NoAckRefused ws (senderEvents (freshSender Off) (callsOver (treeAfter s cs) ws))
-way-stays s h f cs c ws o = stays (s .ends) (treeAfter s cs) (way-charts s h f cs c) ws o
+way-stays s h f cs c ws o = stays (s .ends) (treeAfter s cs) (way-with s h f cs c) ws o

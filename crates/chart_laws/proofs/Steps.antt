@@ -37,8 +37,8 @@ use Rattle.sender.specs.Memory.{averageNext, rttNext, remembered, ratioNow, poi
 use Rattle.sender.specs.Acks.{windowNow, drawn, paced, settled, ackDrawn, ackWith, ackPending, ackAdmitted}
 use Rattle.sender.specs.Sender.{freshSender, ackOf, withLastSend, sendAdmitted, sendOf, tickOf}
 use Rattle.promise.specs.SenderRuns.{afterReply}
-use Rattle.chart_laws.specs.Chart.{Times, sentAt, receivedAt, roundTrip, shorterOf, Charts}
-use Rattle.chart_laws.proofs.Ends.{charted-from-one, in-box, shorter-above}
+use Rattle.chart_laws.specs.Chart.{Times, sentAt, receivedAt, roundTrip, shorterOf, GrownWith}
+use Rattle.chart_laws.proofs.Ends.{ends-one, in-box, shorter-above}
 use Rattle.chart_laws.proofs.Quotient.{1f, quotient-min}
 use Rattle.chart_laws.proofs.Bounded.{Kept, kept-next, kept-within}
 
@@ -122,7 +122,7 @@ pub record Served (ends : Point) (t : RuleTree) (s : Sender) (x : Times) (m : Fl
   pub taken : ackOf t s (x .sent) (x .received) draw ≡ Taken held
   pub charted : Charted ends x m (held .sender)
 
-module _ (ends : Point) (t : RuleTree) (over : Charts ends t) (x : Times)
+module _ (ends : Point) (t : RuleTree) (over : GrownWith ends t) (x : Times)
     (good : T (admitted (x .sent) && admitted (x .received))) (draw : Draw) (trip : T (lt 0f (roundTrip x)))
   where
     -- from what the ack makes of the sender's memory
@@ -135,7 +135,7 @@ module _ (ends : Point) (t : RuleTree) (over : Charts ends t) (x : Times)
         let n = knownOf s x in
         let q : T (within 0f (ratio ends) (div binary64 (roundTrip x) m)) =
         and-i (le 0f (div binary64 (roundTrip x) m)) (lt (div binary64 (roundTrip x) m) (ratio ends)) (quotient-min (roundTrip x) m (ratio ends) trip p h) h in
-        let one = charted-from-one ends t over in
+        let one = ends-one ends t over in
         let c = in-box ends t over (pointOf n) (kept-within (ack ends) (one .0) (n .«ack_ewma») ka)
         (kept-within (send ends) (one .1 .0) (n .«send_ewma») ks)
         (subst (λ (r : Rtt). T (within 0f (ratio ends) (ratioNow r))) (sym e) q) in
@@ -196,6 +196,6 @@ module _ (ends : Point) (t : RuleTree) (over : Charts ends t) (x : Times)
         → Served ends t s x (shorterOf m (roundTrip x)) draw
     next y m s k a b h =
         step s (k .idle) (k .off)
-        (kept-more (ack ends) (charted-from-one ends t over .0) (s .«ack_ewma») (s .«last_ack») (receivedAt y) (receivedAt x) (k .last) (k .acks) a)
-        (kept-more (send ends) (charted-from-one ends t over .1 .0) (s .«send_ewma») (s .«last_ack_send») (sentAt y) (sentAt x) (k .lastSend) (k .sends) b)
+        (kept-more (ack ends) (ends-one ends t over .0) (s .«ack_ewma») (s .«last_ack») (receivedAt y) (receivedAt x) (k .last) (k .acks) a)
+        (kept-more (send ends) (ends-one ends t over .1 .0) (s .«send_ewma») (s .«last_ack_send») (sentAt y) (sentAt x) (k .lastSend) (k .sends) b)
         (shorterOf m (roundTrip x)) (shorter-known (s .rtt) m (roundTrip x) (k .current) (k .trips)) (shorter-above m (roundTrip x) (k .above) trip) h

@@ -17,12 +17,12 @@ use Rattle.sender.specs.Sender.{freshSender, sendOf, tickOf}
 use Rattle.sender.specs.SenderCall.{SenderCall}
 use Rattle.sender.specs.SenderCall as call
 use Rattle.promise.specs.SenderRuns.{afterReply}
-use Rattle.chart_laws.specs.Chart.{Times, ackTimes, sentAt, receivedAt, roundTrip, allAdmitted, gapsAfter, gapsHold, allAbove, shorterOf, ratiosAfter, ratiosHold, OnChart, AcksOver, Charts, AcksTaken}
+use Rattle.chart_laws.specs.Chart.{Times, ackTimes, sentAt, receivedAt, roundTrip, allAdmitted, gapsAfter, gapsHold, allAbove, shorterOf, ratiosAfter, ratiosHold, OnChart, AcksOver, GrownWith, AcksTaken}
 use Rattle.chart_laws.proofs.Steps.{Charted, Fresh, send-stays, tick-stays, charted-keeps, fresh-keeps, fresh-starts, first, next}
 
 module _ (ends : Point) where
   -- after an ack at y, with m the shortest round trip so far
-  rest : (cs : List (SenderCall RuleTree)) → AcksOver (Charts ends) cs → (y : Times) (m : Float) (s : Sender) → Charted ends y m s
+  rest : (cs : List (SenderCall RuleTree)) → AcksOver (GrownWith ends) cs → (y : Times) (m : Float) (s : Sender) → Charted ends y m s
       → T (allAdmitted (ackTimes cs)) → T (gapsAfter (ack ends) (receivedAt y) (map receivedAt (ackTimes cs)))
       → T (gapsAfter (send ends) (sentAt y) (map sentAt (ackTimes cs))) → T (allAbove (map roundTrip (ackTimes cs)))
       → T (ratiosAfter (ratio ends) m (map roundTrip (ackTimes cs))) → AcksTaken s cs
@@ -50,7 +50,7 @@ module _ (ends : Point) where
         rest cs (o .1) v (shorterOf m r) (w .held .sender) (w .charted) (and-r A A' a) (and-r B B' b) (and-r C C' c) (and-r D D' d) (and-r E E' e),
       )
 
-  all : (cs : List (SenderCall RuleTree)) → AcksOver (Charts ends) cs → (s : Sender) → Fresh s → T (allAdmitted (ackTimes cs))
+  all : (cs : List (SenderCall RuleTree)) → AcksOver (GrownWith ends) cs → (s : Sender) → Fresh s → T (allAdmitted (ackTimes cs))
       → T (gapsHold (ack ends) (map receivedAt (ackTimes cs))) → T (gapsHold (send ends) (map sentAt (ackTimes cs)))
       → T (allAbove (map roundTrip (ackTimes cs))) → T (ratiosHold (ratio ends) (map roundTrip (ackTimes cs))) → AcksTaken s cs
   unfolding allAdmitted gapsHold allAbove ratiosHold
@@ -70,5 +70,5 @@ module _ (ends : Point) where
       (w .held, w .taken, rest cs (o .1) v r (w .held .sender) (w .charted) (and-r A A' a) b c (and-r D D' d) (and-r E E' e))
 
   -- the public ack, over any grown trees with these ends
-  pub acks-taken : (cs : List (SenderCall RuleTree)) → AcksOver (Charts ends) cs → OnChart ends (ackTimes cs) → AcksTaken (freshSender Off) cs
+  pub acks-taken : (cs : List (SenderCall RuleTree)) → AcksOver (GrownWith ends) cs → OnChart ends (ackTimes cs) → AcksTaken (freshSender Off) cs
   acks-taken cs o h = all cs o (freshSender Off) fresh-starts (h .moments) (h .acks) (h .sends) (h .trips) (h .ratios)

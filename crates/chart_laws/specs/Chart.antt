@@ -61,7 +61,8 @@ unfoldable pub allAbove : List Float → Bool
 allAbove [] = true
 allAbove (r ∷ rs) = lt zero r && allAbove rs
 
--- "each rounded ratio is below its end": of a round trip to the shortest so far, which counts it; a first ack's is r / r
+-- "each rounded ratio is below its end": of a round trip to the shortest so far, which counts it. A first ack's is r / r, so its point
+-- is (0, 0, 1), and where the ratio's end is exactly 1 no list with an ack passes
 abbrev pub shorterOf : Float → Float → Float
 shorterOf shortest r = cond (lt r shortest) r shortest
 
@@ -89,7 +90,7 @@ AcksOver P (send at ∷ cs) = AcksOver P cs
 AcksOver P (tick ∷ cs) = AcksOver P cs
 
 -- a grown tree, so with ends from 1 to 1,000,000, and these are its ends
-pub record Charts (ends : Point) (t : RuleTree) : Type 0 where
+pub record GrownWith (ends : Point) (t : RuleTree) : Type 0 where
   pub grown : grownOf t ≡ true
   pub same : pointEqual ends (t .ends) ≡ true
 
