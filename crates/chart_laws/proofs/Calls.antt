@@ -4,7 +4,7 @@ use mathlib.Core.Path.{_≡_, refl, sym, ap, subst}
 use mathlib.Core.Bool.{true, false}
 use mathlib.Core.List.{List, [], _∷_, map}
 use lib.Dec.{T}
-use lib.Ieee.{Float, binary64, div, le, lt}
+use lib.Ieee.{binary64, div, le, lt}
 use lib.Ieee.Fits.{and-l}
 use Rattle.floats.proofs.Order.{lt→¬le, le-self, lt-nn-r, lt-le-trans}
 use Rattle.floats.proofs.Zero.{0f}
