@@ -1,6 +1,6 @@
 -- The same over the trees of a training, as demand 3 has them: each ack is over any one of the trees on the way, which have the upper ends of the settings.
 -- Assumes nothing.
-use mathlib.Core.Path.{_≡_, sym, ap, subst, _∙_}
+use mathlib.Core.Path.{_≡_, refl, sym, ap, subst, _∙_}
 use mathlib.Core.Bool.{true}
 use mathlib.Core.List.{List, [], _∷_}
 use Prim.Native.Nat.{ℕ}

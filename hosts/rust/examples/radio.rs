@@ -15,7 +15,7 @@ fn main() -> Result<(), Refusal> {
         let mut sender = Sender::new(RepeatMode::Off)?;
         for (sent, received) in [(0.0, 0.01), (0.5, 0.51), (9.0, 9.01)] {
             match sender.ack(&trainer, sent, received, None) {
-                Ok(window) => println!("  acked at {received} s: window {window}"),
+                Ok(reply) => println!("  acked at {received} s: window {}", reply.window),
                 Err(refusal) => println!("  acked at {received} s: {refusal}"),
             }
         }

@@ -69,9 +69,9 @@ fn a_box_of_a_second() {
 fn a_sender_in_a_box_of_a_second() {
     let trainer = Trainer::start(&with([1.0, 1.0, 1000.0])).unwrap();
     let mut sender = Sender::new(RepeatMode::Off).unwrap();
-    assert_eq!(sender.ack(&trainer, 0.0, 0.05, None), Ok(2));
+    assert_eq!(sender.ack(&trainer, 0.0, 0.05, None).map(|r| r.window), Ok(2));
     assert_eq!(sender.ack(&trainer, 2.0, 2.05, None), Err(Refusal(22)), "a gap of two seconds");
-    assert_eq!(sender.ack(&trainer, 0.5, 0.55, None), Ok(3));
+    assert_eq!(sender.ack(&trainer, 0.5, 0.55, None).map(|r| r.window), Ok(3));
     // The first ack's ratio is 1, which a box that ends at 1 does not hold.
     let narrow = Trainer::start(&with([1.0; 3])).unwrap();
     assert_eq!(Sender::new(RepeatMode::Off).unwrap().ack(&narrow, 0.0, 0.05, None), Err(Refusal(22)));

@@ -231,7 +231,7 @@ fn panel() {
     assert_eq!(fresh().panel(&[0]).unwrap(), "leaves 1 splits 0\n0 0\n");
     assert_eq!(fresh().panel(&[]), Err(Refusal(4)));
     assert_eq!(fresh().panel(&[1, 1]), Err(Refusal(4)));
-    let mut split = Trainer::start(&Settings { rounds: 0, ..Settings::default() }).unwrap();
+    let mut split = Trainer::start(&Settings { optimization_rounds_per_split: 0, ..Settings::default() }).unwrap();
     split.answer_counts(&[1]).unwrap();
     assert_eq!(
         split.panel(&[0, 1, 0, 1, 0, 1, 0, 0, 0]).unwrap(),
