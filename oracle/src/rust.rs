@@ -31,7 +31,7 @@ use flowforge::{
 
 use crate::plain::{
     admitted, Ack, Action, Answer, Change, Kind, Phase, Point, Refused, Repeat, Sender, Settings, Trainer,
-    Tree,
+    Tree, USUAL_ENDS,
 };
 
 /// Stops everything: an original and document 01 do not agree where no difference is noted.
@@ -156,9 +156,9 @@ pub fn grow(settings: &Settings, plain: &Tree) -> RuleTree {
     tree
 }
 
-/// A tree that the originals grow by a list of splits; none where one of them names no leaf.
+/// A tree with the usual upper ends that the originals grow by a list of splits; none where one of them names no leaf.
 fn grown_by(list: &[u16]) -> Option<RuleTree> {
-    let mut tree = RuleTree::default(RemyTrainer::default().default_action);
+    let mut tree = new_tree(USUAL_ENDS, RemyTrainer::default().default_action);
     for node in list {
         let node = usize::from(*node);
         if !matches!(tree.field_nodes().get(node), Some(RuleTreeNode::Leaf { .. })) {
