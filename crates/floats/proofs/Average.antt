@@ -322,8 +322,8 @@ module _ (f : Format) (p : Float) (np : T (nonneg p)) (fp : T (fits f p))
   top : Float
   top = round f false ((8 * w.M + (4 - w.M % 2)) * 2 ^ w.E) (2 ^ low f)
 
-  grid-top : grid f ((8 * w.M + (4 - w.M % 2)) * 2 ^ w.E) (2 ^ low f) ≡ w.M * 2 ^ w.E * 8
-  grid-top =
+  grid_top : grid f ((8 * w.M + (4 - w.M % 2)) * 2 ^ w.E) (2 ^ low f) ≡ w.M * 2 ^ w.E * 8
+  grid_top =
       top_is f w.M w.E w.large w.small ∙ ap (λ (z : ℕ). w.M * z) (up3 w.E) ∙ sym
       (mul_assoc w.M (2 ^ w.E) 8)
 
@@ -333,8 +333,8 @@ module _ (f : Format) (p : Float) (np : T (nonneg p)) (fp : T (fits f p))
       le_of_values _ p (grid f ((8 * w.M + (4 - w.M % 2)) * 2 ^ w.E) (2 ^ low f)) (2 ^ low f) (num p) (den p)
       (pow_pos (low f)) (den_pos p)
       (round_val f ((8 * w.M + (4 - w.M % 2)) * 2 ^ w.E) (2 ^ low f)
-      (subst (λ (z : ℕ). z < overflow f) (sym grid-top) fine)) (own p np)
-      (le_of_eq (ap (λ (z : ℕ). z * den p) grid-top ∙ sym w.is))
+      (subst (λ (z : ℕ). z < overflow f) (sym grid_top) fine)) (own p np)
+      (le_of_eq (ap (λ (z : ℕ). z * den p) grid_top ∙ sym w.is))
 
   le-top : T (le (add f (mul f 7/8 p) (mul f 1/8 p)) top)
   unfolding top
@@ -353,29 +353,29 @@ module _ (f : Format) (p : Float) (np : T (nonneg p)) (fp : T (fits f p))
       go a α g γ l h m W r e k b =
           omega (arith, ap (λ (z : ℕ). z * γ) e, ap (λ (z : ℕ). z * α) k, mul-le-mul_right (α * γ) b)
 
-  own-average : T (le (add f (mul f 7/8 p) (mul f 1/8 p)) p)
-  own-average = le_le_trans (add f (mul f 7/8 p) (mul f 1/8 p)) top p le-top top-le
+  own_average : T (le (add f (mul f 7/8 p) (mul f 1/8 p)) p)
+  own_average = le_le_trans (add f (mul f 7/8 p) (mul f 1/8 p)) top p le-top top-le
 
   -- ---- of a and g that are at most p
-  pub seven-nonneg : (a : Float) → T (nonneg a) → T (le a p) → T (nonneg (mul f 7/8 a))
-  seven-nonneg a na ha =
+  pub seven_nonneg : (a : Float) → T (nonneg a) → T (le a p) → T (nonneg (mul f 7/8 a))
+  seven_nonneg a na ha =
       below_finite (mul f 7/8 a) (mul f 7/8 p) (mul_plus f 7/8 a tt na) A-nonneg
       (mul_mono f 7/8 7/8 a p tt tt na np (le_self 7/8 (nonneg_nn 7/8 tt)) ha)
 
-  pub one-nonneg : (g : Float) → T (nonneg g) → T (le g p) → T (nonneg (mul f 1/8 g))
-  one-nonneg g ng hg =
+  pub one_nonneg : (g : Float) → T (nonneg g) → T (le g p) → T (nonneg (mul f 1/8 g))
+  one_nonneg g ng hg =
       below_finite (mul f 1/8 g) (mul f 1/8 p) (mul_plus f 1/8 g tt ng) G-nonneg
       (mul_mono f 1/8 1/8 g p tt tt ng np (le_self 1/8 (nonneg_nn 1/8 tt)) hg)
 
-  pub weighted-le : (a g : Float) → T (nonneg a) → T (nonneg g) → T (le a p) → T (le g p)
+  pub weighted_le : (a g : Float) → T (nonneg a) → T (nonneg g) → T (le a p) → T (le g p)
       → T (le (add f (mul f 7/8 a) (mul f 1/8 g)) p)
-  weighted-le a g na ng ha hg =
+  weighted_le a g na ng ha hg =
       le_le_trans (add f (mul f 7/8 a) (mul f 1/8 g)) (add f (mul f 7/8 p) (mul f 1/8 p)) p
-      (add_mono f (mul f 7/8 a) (mul f 7/8 p) (mul f 1/8 g) (mul f 1/8 p) (seven-nonneg a na ha) A-nonneg
-      (one-nonneg g ng hg) G-nonneg
+      (add_mono f (mul f 7/8 a) (mul f 7/8 p) (mul f 1/8 g) (mul f 1/8 p) (seven_nonneg a na ha) A-nonneg
+      (one_nonneg g ng hg) G-nonneg
       (mul_mono f 7/8 7/8 a p tt tt na np (le_self 7/8 (nonneg_nn 7/8 tt)) ha)
       (mul_mono f 1/8 1/8 g p tt tt ng np (le_self 1/8 (nonneg_nn 1/8 tt)) hg))
-      own-average
+      own_average
 
 -- ---- binary64: p at least 2 ^ -1019
 abbrev pub least : Float
@@ -406,7 +406,7 @@ least_nonneg (fin true n d) f h =
 -- a and g without the sign -
 pub average_nonneg_le : (p a g : Float) → T (nonneg p) → T (nonneg a) → T (nonneg g) → T (fits binary64 p) → T (le least p)
     → T (le a p) → T (le g p) → T (le (average a g) p)
-average_nonneg_le p a g np na ng fp h ha hg = weighted-le binary64 p np fp (big p np h) a g na ng ha hg
+average_nonneg_le p a g np na ng fp h ha hg = weighted_le binary64 p np fp (big p np h) a g na ng ha hg
 
 -- ---- and with -0
 module _ (p a g : Float) (fp : T (finite p)) (tp : T (fits binary64 p)) (h : T (le least p)) (sa : Some a) (sg : Some g)
@@ -426,27 +426,27 @@ module _ (p a g : Float) (fp : T (finite p)) (tp : T (fits binary64 p)) (h : T (
   hg' : T (le (abs g) p)
   hg' = le_le_trans (abs g) g p (abs≈ g sg).ge hg
 
-  part-a : Some (mul binary64 7/8 a)
-  part-a = near_some (mul binary64 7/8 a) (mul binary64 7/8 (abs a)) (mul≈ binary64 7/8 a tt sa)
-      (seven-nonneg binary64 p np tp (big p np h) (abs a) na ha')
+  part_a : Some (mul binary64 7/8 a)
+  part_a = near_some (mul binary64 7/8 a) (mul binary64 7/8 (abs a)) (mul≈ binary64 7/8 a tt sa)
+      (seven_nonneg binary64 p np tp (big p np h) (abs a) na ha')
 
-  part-g : Some (mul binary64 1/8 g)
-  part-g = near_some (mul binary64 1/8 g) (mul binary64 1/8 (abs g)) (mul≈ binary64 1/8 g tt sg)
-      (one-nonneg binary64 p np tp (big p np h) (abs g) ng hg')
+  part_g : Some (mul binary64 1/8 g)
+  part_g = near_some (mul binary64 1/8 g) (mul binary64 1/8 (abs g)) (mul≈ binary64 1/8 g tt sg)
+      (one_nonneg binary64 p np tp (big p np h) (abs g) ng hg')
 
-  pub average-le : T (le (average a g) p)
-  average-le =
+  pub average_le : T (le (average a g) p)
+  average_le =
       le_le_trans (average a g) (average (abs a) (abs g)) p
       (add_mono_some binary64 (mul binary64 7/8 a) (mul binary64 7/8 (abs a)) (mul binary64 1/8 g)
       (mul binary64 1/8 (abs g))
-      part-a (nonneg_some (mul binary64 7/8 (abs a)) (seven-nonneg binary64 p np tp (big p np h) (abs a) na ha'))
-      part-g (nonneg_some (mul binary64 1/8 (abs g)) (one-nonneg binary64 p np tp (big p np h) (abs g) ng hg'))
+      part_a (nonneg_some (mul binary64 7/8 (abs a)) (seven_nonneg binary64 p np tp (big p np h) (abs a) na ha'))
+      part_g (nonneg_some (mul binary64 1/8 (abs g)) (one_nonneg binary64 p np tp (big p np h) (abs g) ng hg'))
       (mul≈ binary64 7/8 a tt sa).le (mul≈ binary64 1/8 g tt sg).le)
       (average_nonneg_le p (abs a) (abs g) np na ng tp h ha' hg')
 
-  pub average-some : Some (average a g)
-  average-some =
-      between_some (average a g) p (add_min binary64 (mul binary64 7/8 a) (mul binary64 1/8 g) part-a part-g) average-le fp
+  pub average_some : Some (average a g)
+  average_some =
+      between_some (average a g) p (add_min binary64 (mul binary64 7/8 a) (mul binary64 1/8 g) part_a part_g) average_le fp
 
 pub average_fits : (a g : Float) → T (fits binary64 (average a g))
 average_fits a g = add-fits binary64 (mul binary64 7/8 a) (mul binary64 1/8 g)

@@ -102,20 +102,20 @@ within_nn lo hi x i = le_nn_r lo x (within_low lo hi x i)
 
 -- ---- an interval that is cut anywhere between its ends
 module _ (lo m hi : Float) (above : T (le lo m)) (below : T (le m hi)) (x : Float) where
-  pub cut-lower : T (within lo m x) → T (within lo hi x)
-  cut-lower i = within_i lo hi x (within_low lo m x i) (lt_le_trans x m hi (within_high lo m x i) below)
+  pub cut_lower : T (within lo m x) → T (within lo hi x)
+  cut_lower i = within_i lo hi x (within_low lo m x i) (lt_le_trans x m hi (within_high lo m x i) below)
 
-  pub cut-upper : T (within m hi x) → T (within lo hi x)
-  cut-upper i = within_i lo hi x (le_le_trans lo m x above (within_low m hi x i)) (within_high m hi x i)
+  pub cut_upper : T (within m hi x) → T (within lo hi x)
+  cut_upper i = within_i lo hi x (le_le_trans lo m x above (within_low m hi x i)) (within_high m hi x i)
 
-  pub cut-either : within lo hi x ≡ (within lo m x || within m hi x)
-  cut-either =
+  pub cut_either : within lo hi x ≡ (within lo m x || within m hi x)
+  cut_either =
       same_test (within lo hi x) (within lo m x || within m hi x)
       (λ i. elim (le-or-lt x m (within_nn lo hi x i) (le_nn_r lo m above)) [
         | inl l ↦ or_l (within lo m x) (within m hi x) (within_i lo m x (within_low lo hi x i) l)
         | inr g ↦ or_r (within lo m x) (within m hi x) (within_i m hi x g (within_high lo hi x i))
       ])
-      (λ o. elim (or_split (within lo m x) (within m hi x) o) [ inl i ↦ cut-lower i | inr i ↦ cut-upper i ])
+      (λ o. elim (or_split (within lo m x) (within m hi x) o) [ inl i ↦ cut_lower i | inr i ↦ cut_upper i ])
 
   pub cut_apart : (within lo m x && within m hi x) ≡ false
   cut_apart =
@@ -124,54 +124,54 @@ module _ (lo m hi : Float) (above : T (le lo m)) (below : T (le m hi)) (x : Floa
       (within_high lo m x (and_l (within lo m x) (within m hi x) b))
       (within_low m hi x (and_r (within lo m x) (within m hi x) b))))
 
-  pub cut-upper-is : T (within lo hi x) → within m hi x ≡ le m x
-  cut-upper-is i =
+  pub cut_upper_is : T (within lo hi x) → within m hi x ≡ le m x
+  cut_upper_is i =
       same_test (within m hi x) (le m x) (λ j. within_low m hi x j) (λ g. within_i m hi x g (within_high lo hi x i))
 
-  pub cut-test : T (within lo hi x) → lt x m ≡ not (le m x)
-  cut-test i = lt_is x m (within_nn lo hi x i) (le_nn_r lo m above)
+  pub cut_test : T (within lo hi x) → lt x m ≡ not (le m x)
+  cut_test i = lt_is x m (within_nn lo hi x i) (le_nn_r lo m above)
 
-  pub cut-test-not : T (within lo hi x) → le m x ≡ not (lt x m)
-  cut-test-not i = le_is m x (le_nn_r lo m above) (within_nn lo hi x i)
+  pub cut_test_not : T (within lo hi x) → le m x ≡ not (lt x m)
+  cut_test_not i = le_is m x (le_nn_r lo m above) (within_nn lo hi x i)
 
-  pub cut-lower-is : T (within lo hi x) → within lo m x ≡ not (le m x)
-  cut-lower-is i =
+  pub cut_lower_is : T (within lo hi x) → within lo m x ≡ not (le m x)
+  cut_lower_is i =
       same_test (within lo m x) (lt x m) (λ j. within_high lo m x j) (λ l. within_i lo m x (within_low lo hi x i) l)
-      ∙ cut-test i
+      ∙ cut_test i
 
   none : (b : Bool) → within lo hi x ≡ false → (T b → T (within lo hi x)) → b ≡ false
   none b e f = is_false b (not_T b (λ t. subst T e (f t)))
 
-  pub cut-outside-lower : within lo hi x ≡ false → within lo m x ≡ false
-  cut-outside-lower e = none (within lo m x) e cut-lower
+  pub cut_outside_lower : within lo hi x ≡ false → within lo m x ≡ false
+  cut_outside_lower e = none (within lo m x) e cut_lower
 
-  pub cut-outside-upper : within lo hi x ≡ false → within m hi x ≡ false
-  cut-outside-upper e = none (within m hi x) e cut-upper
+  pub cut_outside_upper : within lo hi x ≡ false → within m hi x ≡ false
+  cut_outside_upper e = none (within m hi x) e cut_upper
 
 -- ---- the two halves of [lo, hi)
 module _ (lo hi : Float) (p : End lo) (q : End hi) (h : T (le lo hi)) (x : Float) where
   pub halves : within lo hi x ≡ (within lo (middle lo hi) x || within (middle lo hi) hi x)
-  halves = cut-either lo (middle lo hi) hi (middle_between lo hi p q h).above (middle_between lo hi p q h).below x
+  halves = cut_either lo (middle lo hi) hi (middle_between lo hi p q h).above (middle_between lo hi p q h).below x
 
-  pub halves-apart : (within lo (middle lo hi) x && within (middle lo hi) hi x) ≡ false
-  halves-apart = cut_apart lo (middle lo hi) hi (middle_between lo hi p q h).above (middle_between lo hi p q h).below x
+  pub halves_apart : (within lo (middle lo hi) x && within (middle lo hi) hi x) ≡ false
+  halves_apart = cut_apart lo (middle lo hi) hi (middle_between lo hi p q h).above (middle_between lo hi p q h).below x
 
-  pub upper-half : T (within lo hi x) → within (middle lo hi) hi x ≡ le (middle lo hi) x
-  upper-half i =
-      cut-upper-is lo (middle lo hi) hi (middle_between lo hi p q h).above (middle_between lo hi p q h).below x i
+  pub upper_half : T (within lo hi x) → within (middle lo hi) hi x ≡ le (middle lo hi) x
+  upper_half i =
+      cut_upper_is lo (middle lo hi) hi (middle_between lo hi p q h).above (middle_between lo hi p q h).below x i
 
-  pub lower-half : T (within lo hi x) → within lo (middle lo hi) x ≡ not (le (middle lo hi) x)
-  lower-half i =
-      cut-lower-is lo (middle lo hi) hi (middle_between lo hi p q h).above (middle_between lo hi p q h).below x i
+  pub lower_half : T (within lo hi x) → within lo (middle lo hi) x ≡ not (le (middle lo hi) x)
+  lower_half i =
+      cut_lower_is lo (middle lo hi) hi (middle_between lo hi p q h).above (middle_between lo hi p q h).below x i
 
-  pub middle-test : T (within lo hi x) → le (middle lo hi) x ≡ not (lt x (middle lo hi))
-  middle-test i =
-      cut-test-not lo (middle lo hi) hi (middle_between lo hi p q h).above (middle_between lo hi p q h).below x i
+  pub middle_test : T (within lo hi x) → le (middle lo hi) x ≡ not (lt x (middle lo hi))
+  middle_test i =
+      cut_test_not lo (middle lo hi) hi (middle_between lo hi p q h).above (middle_between lo hi p q h).below x i
 
-  pub outside-lower : within lo hi x ≡ false → within lo (middle lo hi) x ≡ false
-  outside-lower e =
-      cut-outside-lower lo (middle lo hi) hi (middle_between lo hi p q h).above (middle_between lo hi p q h).below x e
+  pub outside_lower : within lo hi x ≡ false → within lo (middle lo hi) x ≡ false
+  outside_lower e =
+      cut_outside_lower lo (middle lo hi) hi (middle_between lo hi p q h).above (middle_between lo hi p q h).below x e
 
-  pub outside-upper : within lo hi x ≡ false → within (middle lo hi) hi x ≡ false
-  outside-upper e =
-      cut-outside-upper lo (middle lo hi) hi (middle_between lo hi p q h).above (middle_between lo hi p q h).below x e
+  pub outside_upper : within lo hi x ≡ false → within (middle lo hi) hi x ≡ false
+  outside_upper e =
+      cut_outside_upper lo (middle lo hi) hi (middle_between lo hi p q h).above (middle_between lo hi p q h).below x e

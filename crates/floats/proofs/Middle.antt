@@ -115,8 +115,8 @@ module _ (f : Format) (x : Float) (p : T (nonneg x)) (h : T (fits f x)) (fine : 
       sums : (X d : ℕ) → X * 2 * (d * d) ≡ (X * d + X * d) * d
       sums X d = omega arith
 
-  double-nonneg : T (nonneg (add f x x))
-  double-nonneg = value_nonneg (add f x x) _ _ double
+  double_nonneg : T (nonneg (add f x x))
+  double_nonneg = value_nonneg (add f x x) _ _ double
 
   agree : num x * 1 * (2 * den (add f x x)) ≡ num (add f x x) * 1 * den x
   agree = back_to (num x) (den x) (num (add f x x)) (den (add f x x)) (den_pos x) (cross (add f x x) _ _ double)
@@ -127,7 +127,7 @@ module _ (f : Format) (x : Float) (p : T (nonneg x)) (h : T (fits f x)) (fine : 
   halved : HasValue (div f (add f x x) 2f) false (num (add f x x) * 1) (2 * den (add f x x))
   halved =
       subst (λ (z : Float). HasValue z false (num (add f x x) * 1) (2 * den (add f x x)))
-      (sym (half_is f (add f x x) double-nonneg))
+      (sym (half_is f (add f x x) double_nonneg))
       (exact f x p h 0 (num (add f x x) * 1) (2 * den (add f x x)) (twice (den (add f x x)) (den_pos (add f x x)))
       (less (num x) (2 ^ suc (emax f) * den x) fine) agree)
     where
@@ -137,11 +137,11 @@ module _ (f : Format) (x : Float) (p : T (nonneg x)) (h : T (fits f x)) (fine : 
       less : (X E : ℕ) → X * 2 < E → X * 1 < E
       less X E h = omega arith
 
-  halved-nonneg : T (nonneg (div f (add f x x) 2f))
-  halved-nonneg = value_nonneg (div f (add f x x) 2f) _ _ halved
+  halved_nonneg : T (nonneg (div f (add f x x) 2f))
+  halved_nonneg = value_nonneg (div f (add f x x) 2f) _ _ halved
 
-  le-halved : T (le x (div f (add f x x) 2f))
-  le-halved =
+  le_halved : T (le x (div f (add f x x) 2f))
+  le_halved =
       le_of_values x (div f (add f x x) 2f) (num x) (den x) (num (add f x x) * 1) (2 * den (add f x x)) (den_pos x)
       (twice (den (add f x x)) (den_pos (add f x x))) (own x p) halved
       (le_of_eq (sums (num x) (2 * den (add f x x)) (num (add f x x) * 1 * den x) agree))
@@ -152,8 +152,8 @@ module _ (f : Format) (x : Float) (p : T (nonneg x)) (h : T (fits f x)) (fine : 
       sums : (a b c : ℕ) → a * 1 * b ≡ c → a * b ≡ c
       sums a b c e = omega arith
 
-  halved-le : T (le (div f (add f x x) 2f) x)
-  halved-le =
+  halved_le : T (le (div f (add f x x) 2f) x)
+  halved_le =
       le_of_values (div f (add f x x) 2f) x (num (add f x x) * 1) (2 * den (add f x x)) (num x) (den x)
       (twice (den (add f x x)) (den_pos (add f x x))) (den_pos x) halved (own x p)
       (le_of_eq (sums (num x) (2 * den (add f x x)) (num (add f x x) * 1 * den x) agree))
@@ -188,15 +188,15 @@ mid_between f a b pa pb fa fb h fine =
     let S = add f b a in
     let lo : T (le (add f a a) S) = add_mono f a b a a pa pb pa pa h (le_self a (nonneg_nn a pa)) in
     let hi : T (le S (add f b b)) = add_mono f b b a b pb pb pa pb (le_self b (nonneg_nn b pb)) h in
-    let nA = double-nonneg f a pa fa fine-a in
-    let nB = double-nonneg f b pb fb fine in
+    let nA = double_nonneg f a pa fa fine-a in
+    let nB = double_nonneg f b pb fb fine in
     let nS : T (nonneg S) = below_finite S (add f b b) (add_plus f b a pb pa) nB hi in
     let top : T (le (mid f a b) (div f (add f b b) 2f)) = half_mono f S (add f b b) nS nB hi in
     record {
-      finite = below_finite (mid f a b) (div f (add f b b) 2f) (half_plus f S nS) (halved-nonneg f b pb fb fine) top;
+      finite = below_finite (mid f a b) (div f (add f b b) 2f) (half_plus f S nS) (halved_nonneg f b pb fb fine) top;
       fitting = div-fits f S 2f;
       above =
-          le_le_trans a (div f (add f a a) 2f) (mid f a b) (le-halved f a pa fa fine-a)
+          le_le_trans a (div f (add f a a) 2f) (mid f a b) (le_halved f a pa fa fine-a)
           (half_mono f (add f a a) S nA nS lo);
-      below = le_le_trans (mid f a b) (div f (add f b b) 2f) b top (halved-le f b pb fb fine);
+      below = le_le_trans (mid f a b) (div f (add f b b) 2f) b top (halved_le f b pb fb fine);
     }

@@ -1,6 +1,6 @@
 -- The finite values whose sign is +, zero included, each as a fraction `num` / `den`: sum, product and half are one rounding,
 -- and grow with each operand. Assumes nothing.
-use Rattle.std.proofs.Common.{◌≡◌, ℕ, suc, ◌+◌, ◌-◌, ◌*◌, ◌^◌, ◌<◌, ◌≤◌, Bool, true, false, cond, not, ◌&&◌, ◌||◌, T, eqb, ltb, pos, sym, refl, subst, le_trans, le_of_eq, le_of_lt, mul-le-mul_right, mul-le-mul, mul-pos, arith, eqb→eq, ltb→lt}
+use Rattle.std.proofs.Common.{◌≡◌, ℕ, suc, ◌+◌, ◌*◌, ◌^◌, ◌<◌, ◌≤◌, Bool, true, false, cond, not, ◌&&◌, ◌||◌, T, eqb, ltb, pos, sym, refl, subst, le_trans, le_of_eq, le_of_lt, mul-le-mul_right, mul-le-mul, mul-pos, arith, eqb→eq, ltb→lt}
 use native.Mathlib.Nat.{mul-mul-mul_comm}
 use lib.Ieee.{Float, nan, inf, fin, Format, prec, emax, low, up, down, round, units, odd, add, mul, div, le, is_nan}
 use lib.Ieee.Fits.{round_is}

@@ -1,9 +1,8 @@
 -- Two values that fit, are equal and above 0 are one: an odd number times a power of 2 is written in one way. Assumes nothing.
-use Rattle.std.proofs.Common.{◌≡◌, ℕ, zero, suc, ◌+◌, ◌*◌, ◌%◌, ◌^◌, ◌<◌, Bool, true, false, ◌&&◌, ◌||◌, T, eqb, ltb, leb, ℤ, pos, negsuc, sym, refl, ap, ◌∙◌, zero-lt-suc, mul_assoc, one-mul, pow-suc, zero-mul, mul-one, mul_left_comm, arith, eqb→eq, ltb→lt}
+use Rattle.std.proofs.Common.{◌≡◌, ℕ, zero, suc, ◌*◌, ◌%◌, ◌^◌, ◌<◌, Bool, true, false, ◌&&◌, T, eqb, ltb, leb, ℤ, pos, negsuc, sym, refl, ap, ◌∙◌, zero-lt-suc, mul_assoc, pow-suc, zero-mul, mul-one, mul_left_comm, arith, eqb→eq, ltb→lt}
 use native.Mathlib.Nat.{pow-succ', eq_of_mul-eq-mul_right}
-use mathlib.Core.Bool.{beq}
 use lib.Ieee.{Float, nan, inf, fin, Format, prec, emax, low, up, down, eq, lt, fits}
-use lib.Ieee.Fits.{and_l, and_r}
+use lib.Ieee.Fits.{and_l}
 
 even_odd : (m t : ℕ) → m % 2 ≡ 1 → m ≡ 2 * t → ⊥
 even_odd m t o h = omega arith
@@ -38,10 +37,10 @@ one_way m n (negsuc a) (pos b) o p h =
     (sym (mul-one m) ∙ sym (mul-one (m * 1)) ∙ h ∙ ap (λ (x : ℕ). n * 2 ^ b * x) (pow-succ' 2 a) ∙ mul_left_comm (n * 2 ^ b) 2 (2 ^ a)))
 one_way m n (negsuc a) (negsuc b) o p h =
     let r = odd_power m n (suc b) (suc a) o p (ap (λ (x : ℕ). x * 2 ^ suc b) (sym (mul-one m)) ∙ h ∙ ap (λ (x : ℕ). x * 2 ^ suc a) (mul-one n)) in
-    (r.0, ap negsuc (down-suc (sym r.1)))
+    (r.0, ap negsuc (down_suc (sym r.1)))
   where
-    down-suc : {x y : ℕ} → suc x ≡ suc y → x ≡ y
-    down-suc q = omega arith
+    down_suc : {x y : ℕ} → suc x ≡ suc y → x ≡ y
+    down_suc q = omega arith
 
 no_zero : (e : ℤ) → T (ltb (0 * down e) (0 * up e * 1)) → ⊥
 no_zero e h = none (0 * down e) (0 * up e * 1) (0 * up e) (zero-mul (up e)) refl (ltb→lt (0 * down e) (0 * up e * 1) h)

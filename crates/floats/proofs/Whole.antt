@@ -70,18 +70,18 @@ module _ (h : ℕ) where
       no : (a c d : ℕ) → 0 < c * d → a * 1 + 1 * c * d ≤ 0 → ⊥
       no a c d p l = omega arith
 
-  pub whole-inside : (k : ℕ) (x : Float) → h ≤ k → T (lt (fin true 1 (pos h)) x) → T (lt x (fin false (2 ^ h - 1) (pos 0)))
+  pub whole_inside_lem : (k : ℕ) (x : Float) → h ≤ k → T (lt (fin true 1 (pos h)) x) → T (lt x (fin false (2 ^ h - 1) (pos 0)))
       → to_signed k x ≡ to_signed h x
   unfolding to_signed lt
-  whole-inside k nan w a b = absurd a
-  whole-inside k (inf true) w a b = absurd a
-  whole-inside k (inf false) w a b = absurd b
-  whole-inside k (fin false m e) w a b =
+  whole_inside_lem k nan w a b = absurd a
+  whole_inside_lem k (inf true) w a b = absurd a
+  whole_inside_lem k (inf false) w a b = absurd b
+  whole_inside_lem k (fin false m e) w a b =
       ap pos (kept_both (m * up e / down e) (2 ^ h - 1) (2 ^ k - 1)
       (under (2 ^ h - 1) (down e) (m * up e) (down_pos e)
       (scaled_lt (m * up e) (2 ^ h - 1) (down e) (ltb→lt (m * up e * 1) ((2 ^ h - 1) * 1 * down e) b)))
       (ends (2 ^ h) (2 ^ k) (pow_mono w)))
-  whole-inside k (fin true m e) w a b =
+  whole_inside_lem k (fin true m e) w a b =
       ap (λ (q : ℕ). neg_ℤ (pos q)) (kept_both (m * up e / down e) (2 ^ h) (2 ^ k)
       (under (2 ^ h) (down e) (m * up e) (down_pos e)
       (turned (m * up e) (2 ^ h) (down e) (ltb→lt (m * up e * 1) (1 * 2 ^ h * down e) a)))
@@ -111,7 +111,7 @@ inside_wide x i = (
 )
 
 narrow : (x : Float) (z : ℤ) → Inside x → z ≡ to_signed 63 x → z ≡ to_signed 31 x
-narrow x z i e = e ∙ whole-inside 31 63 x (lit≤ tt) i.low i.high
+narrow x z i e = e ∙ whole_inside_lem 31 63 x (lit≤ tt) i.low i.high
 
 wide_back : (x : Float) (z : ℤ) → z ≡ to_signed 63 x → to_z w64 (of_z w64 z) ≡ z
 wide_back x z e = to_z-of_z w64 z (record { sfits = subst (λ (y : ℤ). mag y < 2 ^ 63) (sym e) (to_signed_in 63 x) })

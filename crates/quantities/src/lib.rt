@@ -1,16 +1,18 @@
 // Moments and spans of time, in seconds, with only the operations that have a meaning.
+#![tactic(auto)]
+
 ghost use Rattle.std.specs.Prelude.{◌≡◌};
 ghost use Rattle.std.specs.Float.{binary64};
 ghost use Rattle.std.specs.Float.Ieee.{div};
 ghost use Rattle.quantities.specs.Time.{span, sum_of, scaled, ratio_of, shorter, thousand, between, moved, later_of, admit_of, moment};
 
 // A span of time, in seconds.
-#[derive(Drop)]
+#[derive(Clone, Copy)]
 pub struct TimeSpan(pub f64);
 
 // A moment, in seconds from the start. Its number is private: two moments have a difference and a later one, and no sum.
 // It is made by admitting a number, by moving a moment by a span, or by restoring one that was held.
-#[derive(Drop)]
+#[derive(Clone, Copy)]
 pub struct Time(f64);
 
 pub fn milliseconds(value: f64) -> TimeSpan
@@ -82,7 +84,7 @@ impl Time {
 }
 
 // What is made of a number that is handed in as a moment.
-#[derive(Drop)]
+#[derive(Clone, Copy)]
 pub enum Admitted {
     At(Time),
     Refused(u32),

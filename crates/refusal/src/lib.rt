@@ -1,4 +1,5 @@
 // What is refused, by its number.
+#![tactic(auto)]
 
 // A moment that is not admitted, or a single action that is not valid.
 pub const NOT_ADMITTED: u32 = 1;

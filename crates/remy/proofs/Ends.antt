@@ -64,9 +64,9 @@ module _ (x : Float) (h : T (end_admitted x)) where
   end_some : Some x
   end_some = between_some x most_end above_zero to-most tt
 
-  admitted-end : T (fits binary64 x) → End x
+  admitted_end : T (fits binary64 x) → End x
   unfolding add
-  admitted-end f = record {
+  admitted_end f = record {
     fitting = f;
     least = above_zero;
     double =
@@ -76,8 +76,8 @@ module _ (x : Float) (h : T (end_admitted x)) where
         ).fin;
   }
 
-  equal-admitted : (z : Float) → T (eq z x) → T (end_admitted z)
-  equal-admitted z e =
+  equal_admitted : (z : Float) → T (eq z x) → T (end_admitted z)
+  equal_admitted z e =
       and_i (le least_end z) (le z most_end) (le_le_trans least_end x z from_one (eq-le x z (eq_sym z x e)))
       (le_le_trans z x most_end (eq-le z x e) to-most)
 
@@ -87,7 +87,7 @@ above_zero_strictly y k = lt_le_trans cubes.zero least_end y tt (and_l (le least
 
 -- an end that equals another, and fits as it does, is the same
 equal_end : (x : Float) → T (end_admitted x) → (z : Float) → T (fits binary64 z) → T (fits binary64 x) → T (eq z x) → z ≡ x
-equal_end x h z f g e = equal_same binary64 z x f g (above_zero_strictly z (equal-admitted x h z e)) (above_zero_strictly x h) e
+equal_end x h z f g e = equal_same binary64 z x f g (above_zero_strictly z (equal_admitted x h z e)) (above_zero_strictly x h) e
 
 beq_self : (s : Bool) → T (beq s s)
 beq_self true = tt
@@ -127,7 +127,7 @@ ends_from_one e h =
 pub whole_admitted : (e : Point) → T (fits binary64 (ack e)) → T (fits binary64 (send e)) → T (fits binary64 (ratio e)) → ends_admitted e ≡ true → Whole (root_of e)
 whole_admitted e f g k h =
     let a = admitted_axes e h in
-    whole_root e (admitted-end (ack e) a.acks f) (admitted-end (send e) a.sends g) (admitted-end (ratio e) a.ratios k)
+    whole_root e (admitted_end (ack e) a.acks f) (admitted_end (send e) a.sends g) (admitted_end (ratio e) a.ratios k)
 
 pub equal_ends : (e u : Point) → point_equal e u ≡ true → ends_admitted u ≡ true → ends_admitted e ≡ true
 unfolding ends_admitted point_equal
@@ -139,9 +139,9 @@ equal_ends e u p h =
     let t = passes (x && (y && z)) p in
     let k = and_r x (y && z) t in
     is_true (ends_admitted e)
-    (and_i (end_admitted (ack e)) (end_admitted (send e) && end_admitted (ratio e)) (equal-admitted (ack u) a.acks (ack e) (and_l x (y && z) t))
-    (and_i (end_admitted (send e)) (end_admitted (ratio e)) (equal-admitted (send u) a.sends (send e) (and_l y z k))
-    (equal-admitted (ratio u) a.ratios (ratio e) (and_r y z k))))
+    (and_i (end_admitted (ack e)) (end_admitted (send e) && end_admitted (ratio e)) (equal_admitted (ack u) a.acks (ack e) (and_l x (y && z) t))
+    (and_i (end_admitted (send e)) (end_admitted (ratio e)) (equal_admitted (send u) a.sends (send e) (and_l y z k))
+    (equal_admitted (ratio u) a.ratios (ratio e) (and_r y z k))))
 
 -- ends that equal admitted ones, and fit as they do, are the same
 pub same_ends : (e u : Point) → (T (fits binary64 (ack e)) × (T (fits binary64 (send e)) × T (fits binary64 (ratio e))))

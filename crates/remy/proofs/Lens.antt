@@ -2,13 +2,12 @@
 use mathlib.Core.Path.{◌≡◌, refl, ap}
 use mathlib.Core.Bool.{Bool, true, false, ◌&&◌}
 use Prim.Native.Nat.{ℕ}
-use lib.IntN.{ℤ, pos, negsuc}
+use lib.IntN.{pos, negsuc}
 use lib.Ieee.{Format, Float, binary64, nan, inf, fin, le, lt, add, div, mul, of_int, to_signed}
 use Rattle.floats.specs.Interval.{within}
-use Rattle.remy.specs.declared.point.Point.{Point}
 use Rattle.remy.specs.declared.cube.Cube.{Cube}
 use Rattle.remy.specs.Cube.{point_of, zero, ack, send, ratio, usual_ends, root_of, contains_of, place_of_point}
-use Rattle.remy.specs.Action.{action_of, window_of, clamp}
+use Rattle.remy.specs.Action.{action_of, window_of}
 
 -- 300 s, 500 and 1000
 abbrev three_hundred : Float

@@ -2,7 +2,7 @@
 -- `window_of` is exactly that sum. Assumes nothing.
 use mathlib.Core.Path.{◌≡◌, refl, sym, ap, ◌∙◌, subst}
 use mathlib.Core.Bool.{Bool, true, false, cond}
-use Prim.Native.Nat.{ℕ, ◌+◌, ◌-◌, ◌*◌, ◌/◌, ◌^◌, ◌≤◌, ◌<◌, min}
+use Prim.Native.Nat.{ℕ, ◌-◌, ◌*◌, ◌/◌, ◌^◌, ◌≤◌, ◌<◌, min}
 use native.Mathlib.Nat.{mul-one, mul-pos, mul-div_cancel, eq_of_mul-eq-mul_right, lt_of_lt_of_le}
 use native.Mathlib.Omega.{arith}
 use lib.IntN.{ℤ, pos, neg_ℤ, ◌+ℤ◌}
@@ -85,22 +85,22 @@ cut-whole (fin t m e) s n h small =
 module _ (a : Action) (w n : ℕ) (s : Bool) (m : ℕ) (e : ℤ) (is : a.window_multiplier ≡ fin s m e) (small : w < 2 ^ 32)
     (whole : w * (m * up e) ≡ n * down e) (range : n < 2 ^ 31) where
   -- the sum is the paper's
-  pub paper-sum : sum_of a w ≡ signed s n +ℤ a.window_increment
-  paper-sum =
+  pub paper_sum : sum_of a w ≡ signed s n +ℤ a.window_increment
+  paper_sum =
       ap (λ (z : ℤ). z +ℤ a.window_increment)
       (ap (λ (x : Float). to_signed 31 (mul binary64 (of_int binary64 (pos w)) x)) is
       ∙ cut-whole (mul binary64 (of_int binary64 (pos w)) (fin s m e)) s n
       (mul_whole (of_int binary64 (pos w)) w n s m e (of_whole w small) whole (more n 31 53 range tt)) range)
 
   -- and so is the window, where the sum is in range
-  pub paper-window : (r : ℕ) → signed s n +ℤ a.window_increment ≡ pos r → r ≤ 1000000 → window_of a w ≡ r
+  pub paper_window : (r : ℕ) → signed s n +ℤ a.window_increment ≡ pos r → r ≤ 1000000 → window_of a w ≡ r
   unfolding window_of clamp
-  paper-window r total h = ap clamp (paper-sum ∙ total) ∙ kept r 1000000 h
+  paper_window r total h = ap clamp (paper_sum ∙ total) ∙ kept r 1000000 h
     where
       kept : (n c : ℕ) → n ≤ c → min n c ≡ n
       kept n c h = omega arith
 
   -- and where it is not, the end of the range
-  pub paper-clamped : window_of a w ≡ clamp (signed s n +ℤ a.window_increment)
+  pub paper_clamped : window_of a w ≡ clamp (signed s n +ℤ a.window_increment)
   unfolding window_of
-  paper-clamped = ap clamp paper-sum
+  paper_clamped = ap clamp paper_sum

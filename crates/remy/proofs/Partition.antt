@@ -10,7 +10,7 @@ use lib.Ieee.Bits.{is_true, is_false}
 use lib.Ieee.Fits.{and_l, and_r, and_i}
 use denote.Floats.{passes}
 use Rattle.floats.specs.Interval.{within, middle, End}
-use Rattle.floats.proofs.Interval.{middle_between, upper-half, lower-half, cut-lower, cut-upper}
+use Rattle.floats.proofs.Interval.{middle_between, upper_half, lower_half, cut_lower, cut_upper}
 use Rattle.remy.specs.declared.point.Point.{Point}
 use Rattle.remy.specs.declared.cube.Cube.{Cube}
 use Rattle.remy.specs.declared.cube.Ends.{Ends}
@@ -34,44 +34,44 @@ unfolding half_of
 part lo hi b = half_of lo (middle lo hi) hi b
 
 module _ (lo hi : Float) (x : Axis lo hi) where
-  half-axis : (b : Bool) → Axis (part lo hi b).lo (part lo hi b).hi
+  half_axis : (b : Bool) → Axis (part lo hi b).lo (part lo hi b).hi
   unfolding half_of
-  half-axis true = let m = middle_between lo hi x.from x.to x.ordered in record { from = m.end; to = x.to; ordered = m.below }
-  half-axis false = let m = middle_between lo hi x.from x.to x.ordered in record { from = x.from; to = m.end; ordered = m.above }
+  half_axis true = let m = middle_between lo hi x.from x.to x.ordered in record { from = m.end; to = x.to; ordered = m.below }
+  half_axis false = let m = middle_between lo hi x.from x.to x.ordered in record { from = x.from; to = m.end; ordered = m.above }
 
-  half-inside : (b : Bool) (p : Float) → T (within (part lo hi b).lo (part lo hi b).hi p) → T (within lo hi p)
+  half_inside : (b : Bool) (p : Float) → T (within (part lo hi b).lo (part lo hi b).hi p) → T (within lo hi p)
   unfolding half_of
-  half-inside true p h = let m = middle_between lo hi x.from x.to x.ordered in cut-upper lo (middle lo hi) hi m.above m.below p h
-  half-inside false p h = let m = middle_between lo hi x.from x.to x.ordered in cut-lower lo (middle lo hi) hi m.above m.below p h
+  half_inside true p h = let m = middle_between lo hi x.from x.to x.ordered in cut_upper lo (middle lo hi) hi m.above m.below p h
+  half_inside false p h = let m = middle_between lo hi x.from x.to x.ordered in cut_lower lo (middle lo hi) hi m.above m.below p h
 
   -- which half holds p
-  half-side : (b : Bool) (p : Float) → T (within lo hi p) → T (within (part lo hi b).lo (part lo hi b).hi p) → b ≡ le (middle lo hi) p
+  half_side : (b : Bool) (p : Float) → T (within lo hi p) → T (within (part lo hi b).lo (part lo hi b).hi p) → b ≡ le (middle lo hi) p
   unfolding half_of
-  half-side true p i h = sym (sym (upper-half lo hi x.from x.to x.ordered p i) ∙ is_true (within (middle lo hi) hi p) h)
-  half-side false p i h = sym (clear (le (middle lo hi) p) (subst T (lower-half lo hi x.from x.to x.ordered p i) h))
+  half_side true p i h = sym (sym (upper_half lo hi x.from x.to x.ordered p i) ∙ is_true (within (middle lo hi) hi p) h)
+  half_side false p i h = sym (clear (le (middle lo hi) p) (subst T (lower_half lo hi x.from x.to x.ordered p i) h))
     where
       clear : (b : Bool) → T (not b) → b ≡ false
       clear true t = absurd t
       clear false t = refl
 
-  half-holds : (b : Bool) (p : Float) → T (within lo hi p) → b ≡ le (middle lo hi) p → T (within (part lo hi b).lo (part lo hi b).hi p)
+  half_holds : (b : Bool) (p : Float) → T (within lo hi p) → b ≡ le (middle lo hi) p → T (within (part lo hi b).lo (part lo hi b).hi p)
   unfolding half_of
-  half-holds true p i e = subst T (e ∙ sym (upper-half lo hi x.from x.to x.ordered p i)) tt
-  half-holds false p i e = subst T (ap not e ∙ sym (lower-half lo hi x.from x.to x.ordered p i)) tt
+  half_holds true p i e = subst T (e ∙ sym (upper_half lo hi x.from x.to x.ordered p i)) tt
+  half_holds false p i e = subst T (ap not e ∙ sym (lower_half lo hi x.from x.to x.ordered p i)) tt
 
 -- ---- whole cubes
 module _ (c : Cube) (w : Whole c) where
-  whole-half : (a s r : Bool) → Whole (half_cube c (middle_of c) a s r)
+  whole_half : (a s r : Bool) → Whole (half_cube c (middle_of c) a s r)
   unfolding half_cube
-  whole-half a s r = record {
-    acks = half-axis (ack c.min) (ack c.max) w.acks a;
-    sends = half-axis (send c.min) (send c.max) w.sends s;
-    ratios = half-axis (ratio c.min) (ratio c.max) w.ratios r;
+  whole_half a s r = record {
+    acks = half_axis (ack c.min) (ack c.max) w.acks a;
+    sends = half_axis (send c.min) (send c.max) w.sends s;
+    ratios = half_axis (ratio c.min) (ratio c.max) w.ratios r;
   }
 
-  pub whole-child : (k : ℕ) → Whole (child_cube c k)
+  pub whole_child : (k : ℕ) → Whole (child_cube c k)
   unfolding child_cube
-  whole-child k = whole-half (eqb (k / 4 % 2) 1) (eqb (k / 2 % 2) 1) (eqb (k % 2) 1)
+  whole_child k = whole_half (eqb (k / 4 % 2) 1) (eqb (k / 2 % 2) 1) (eqb (k % 2) 1)
 
 zero_end : End cubes.zero
 unfolding fits le add
@@ -134,68 +134,68 @@ number_bits (suc (suc (suc (suc (suc (suc (suc zero))))))) h = refl
 number_bits (suc (suc (suc (suc (suc (suc (suc (suc j)))))))) h = absurd (past j h)
 
 module _ (c : Cube) (w : Whole c) (p : Point) where
-  half-cube-inside : (a s r : Bool) → T (contains_of (half_cube c (middle_of c) a s r) p) → T (contains_of c p)
+  half_cube_inside : (a s r : Bool) → T (contains_of (half_cube c (middle_of c) a s r) p) → T (contains_of c p)
   unfolding half_cube
-  half-cube-inside a s r h =
+  half_cube_inside a s r h =
       let k = split_all (half_cube c (middle_of c) a s r) p h in
       join_all c p
-      (half-inside (ack c.min) (ack c.max) w.acks a (ack p) k.0)
-      (half-inside (send c.min) (send c.max) w.sends s (send p) k.1.0)
-      (half-inside (ratio c.min) (ratio c.max) w.ratios r (ratio p) k.1.1)
+      (half_inside (ack c.min) (ack c.max) w.acks a (ack p) k.0)
+      (half_inside (send c.min) (send c.max) w.sends s (send p) k.1.0)
+      (half_inside (ratio c.min) (ratio c.max) w.ratios r (ratio p) k.1.1)
 
-  child-inside-T : (k : ℕ) → T (contains_of (child_cube c k) p) → T (contains_of c p)
+  child_inside_T : (k : ℕ) → T (contains_of (child_cube c k) p) → T (contains_of c p)
   unfolding child_cube
-  child-inside-T k h = half-cube-inside (eqb (k / 4 % 2) 1) (eqb (k / 2 % 2) 1) (eqb (k % 2) 1) h
+  child_inside_T k h = half_cube_inside (eqb (k / 4 % 2) 1) (eqb (k / 2 % 2) 1) (eqb (k % 2) 1) h
 
   -- a child's points are the cube's
-  pub child-inside : (k : ℕ) → contains_of (child_cube c k) p ≡ true → contains_of c p ≡ true
-  child-inside k h = is_true (contains_of c p) (child-inside-T k (passes (contains_of (child_cube c k) p) h))
+  pub child_inside : (k : ℕ) → contains_of (child_cube c k) p ≡ true → contains_of c p ≡ true
+  child_inside k h = is_true (contains_of c p) (child_inside_T k (passes (contains_of (child_cube c k) p) h))
 
-  pub no-child : contains_of c p ≡ false → (j : ℕ) → contains_of (child_cube c j) p ≡ false
-  no-child e j =
+  pub no_child : contains_of c p ≡ false → (j : ℕ) → contains_of (child_cube c j) p ≡ false
+  no_child e j =
       is_false (contains_of (child_cube c j) p)
-      (not_T (contains_of (child_cube c j) p) (λ t. subst T e (child-inside-T j t)))
+      (not_T (contains_of (child_cube c j) p) (λ t. subst T e (child_inside_T j t)))
 
   -- the child toward p holds p
-  half-cube-holds : T (contains_of c p)
+  half_cube_holds : T (contains_of c p)
       → T (contains_of (half_cube c (middle_of c) (le (ack (middle_of c)) (ack p)) (le (send (middle_of c)) (send p)) (le (ratio (middle_of c)) (ratio p))) p)
   unfolding half_cube
-  half-cube-holds h =
+  half_cube_holds h =
       let k = split_all c p h in
       join_all
       (half_cube c (middle_of c) (le (ack (middle_of c)) (ack p)) (le (send (middle_of c)) (send p)) (le (ratio (middle_of c)) (ratio p))) p
-      (half-holds (ack c.min) (ack c.max) w.acks (le (ack (middle_of c)) (ack p)) (ack p) k.0 refl)
-      (half-holds (send c.min) (send c.max) w.sends (le (send (middle_of c)) (send p)) (send p) k.1.0 refl)
-      (half-holds (ratio c.min) (ratio c.max) w.ratios (le (ratio (middle_of c)) (ratio p)) (ratio p) k.1.1 refl)
+      (half_holds (ack c.min) (ack c.max) w.acks (le (ack (middle_of c)) (ack p)) (ack p) k.0 refl)
+      (half_holds (send c.min) (send c.max) w.sends (le (send (middle_of c)) (send p)) (send p) k.1.0 refl)
+      (half_holds (ratio c.min) (ratio c.max) w.ratios (le (ratio (middle_of c)) (ratio p)) (ratio p) k.1.1 refl)
 
-  pub place-holds : contains_of c p ≡ true → contains_of (child_cube c (place_of_point c p)) p ≡ true
+  pub place_holds : contains_of c p ≡ true → contains_of (child_cube c (place_of_point c p)) p ≡ true
   unfolding place_of_point
-  place-holds h =
+  place_holds h =
       let a = le (ack (middle_of c)) (ack p) in
       let s = le (send (middle_of c)) (send p) in
       let r = le (ratio (middle_of c)) (ratio p) in
       ap (λ (d : Cube). contains_of d p) (child_number c a s r)
-      ∙ is_true (contains_of (half_cube c (middle_of c) a s r) p) (half-cube-holds (passes (contains_of c p) h))
+      ∙ is_true (contains_of (half_cube c (middle_of c) a s r) p) (half_cube_holds (passes (contains_of c p) h))
 
   -- and no other child does
-  half-cube-only : (a s r : Bool) → T (contains_of c p) → T (contains_of (half_cube c (middle_of c) a s r) p) → number_of a s r ≡ place_of_point c p
+  half_cube_only : (a s r : Bool) → T (contains_of c p) → T (contains_of (half_cube c (middle_of c) a s r) p) → number_of a s r ≡ place_of_point c p
   unfolding half_cube place_of_point
-  half-cube-only a s r i h =
+  half_cube_only a s r i h =
       let k = split_all c p i in
       let l = split_all (half_cube c (middle_of c) a s r) p h in
-      let x = half-side (ack c.min) (ack c.max) w.acks a (ack p) k.0 l.0 in
-      let y = half-side (send c.min) (send c.max) w.sends s (send p) k.1.0 l.1.0 in
-      let z = half-side (ratio c.min) (ratio c.max) w.ratios r (ratio p) k.1.1 l.1.1 in
+      let x = half_side (ack c.min) (ack c.max) w.acks a (ack p) k.0 l.0 in
+      let y = half_side (send c.min) (send c.max) w.sends s (send p) k.1.0 l.1.0 in
+      let z = half_side (ratio c.min) (ratio c.max) w.ratios r (ratio p) k.1.1 l.1.1 in
       ap (λ (b : Bool). number_of b s r) x
       ∙ ap (λ (b : Bool). number_of (le (ack (middle_of c)) (ack p)) b r) y
       ∙ ap (λ (b : Bool). number_of (le (ack (middle_of c)) (ack p)) (le (send (middle_of c)) (send p)) b) z
 
-  pub place-only : (j : ℕ) → j < 8 → contains_of (child_cube c j) p ≡ true → j ≡ place_of_point c p
+  pub place_only : (j : ℕ) → j < 8 → contains_of (child_cube c j) p ≡ true → j ≡ place_of_point c p
   unfolding child_cube
-  place-only j l h =
+  place_only j l h =
       let t = passes (contains_of (child_cube c j) p) h in
       sym (number_bits j l)
-      ∙ half-cube-only (eqb (j / 4 % 2) 1) (eqb (j / 2 % 2) 1) (eqb (j % 2) 1) (child-inside-T j t) t
+      ∙ half_cube_only (eqb (j / 4 % 2) 1) (eqb (j / 2 % 2) 1) (eqb (j % 2) 1) (child_inside_T j t) t
 
 pub place_below : (c : Cube) (p : Point) → place_of_point c p < 8
 unfolding place_of_point
@@ -204,11 +204,11 @@ place_below c p = number_below (le (ack (middle_of c)) (ack p)) (le (send (middl
 pub one_child : (c : Cube) → Whole c → (p : Point) → contains_of c p ≡ true
     → (place_of_point c p < 8) × ((contains_of (child_cube c (place_of_point c p)) p ≡ true)
     × ((j : ℕ) → j < 8 → contains_of (child_cube c j) p ≡ true → j ≡ place_of_point c p))
-one_child c w p h = (place_below c p, (place-holds c w p h, place-only c w p))
+one_child c w p h = (place_below c p, (place_holds c w p h, place_only c w p))
 
 -- the children below the place do not hold p, so that the first child that does, in order of number, is the one at the place
 pub first_child_lem : (c : Cube) → Whole c → (p : Point) (j : ℕ) → j < place_of_point c p → contains_of (child_cube c j) p ≡ false
-first_child_lem c w p j h = none (contains_of (child_cube c j) p) (λ e. other j (place_of_point c p) h (place_below c p) (place-only c w p j (less j (place_of_point c p) h (place_below c p)) e))
+first_child_lem c w p j h = none (contains_of (child_cube c j) p) (λ e. other j (place_of_point c p) h (place_below c p) (place_only c w p j (less j (place_of_point c p) h (place_below c p)) e))
   where
     none : (b : Bool) → (b ≡ true → ⊥) → b ≡ false
     none true f = absurd (f refl)

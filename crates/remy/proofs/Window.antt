@@ -66,8 +66,8 @@ module _ (z : ℤ) (f : SFits w64 z) (l : lt_z (to_z w64 (of_z w64 z)) (pos 0) �
   pub held_fits : T (non_neg (to_z w64 (of_z w64 z))) × Fits w32 (nat_abs (to_z w64 (of_z w64 z)))
   held_fits = inside_fits (to_z w64 (of_z w64 z)) l h
 
-  pub held-inside : (b : Bool) → ◌≡◌ {A = Applied} record { window = nat_abs (to_z w64 (of_z w64 z)); clipped = b } (held_of z b)
-  held-inside b = rw (to_z-of_z w64 z f) (inside z b (rw (to_z-of_z w64 z f) at l) (rw (to_z-of_z w64 z f) at h))
+  pub held_inside : (b : Bool) → ◌≡◌ {A = Applied} record { window = nat_abs (to_z w64 (of_z w64 z)); clipped = b } (held_of z b)
+  held_inside b = rw (to_z-of_z w64 z f) (inside z b (rw (to_z-of_z w64 z f) at l) (rw (to_z-of_z w64 z f) at h))
 
 -- ---- a product that is cut outside the range of i32
 abbrev low_end : Float
@@ -163,26 +163,26 @@ cut-whole x z e = record { sfits = subst (λ (y : ℤ). mag y < 2 ^ 31) (sym e) 
 
 -- ---- an action is valid; z is the increment
 module _ (a : Action) where
-  pub valid-all : (x y : Bool) (z : ℤ) → x ≡ finite a.window_multiplier → x ≡ true
+  pub valid_all : (x y : Bool) (z : ℤ) → x ≡ finite a.window_multiplier → x ≡ true
       → y ≡ finite a.intersend_delay.0 → y ≡ true
       → z ≡ a.window_increment → le_z (negsuc 999999) z ≡ true → le_z z (pos 1000000) ≡ valid_of a
   unfolding valid_of
-  valid-all x y z ex tx ey ty ez h = rw (← ex, tx, ← ey, ty, ← ez, h)
+  valid_all x y z ex tx ey ty ez h = rw (← ex, tx, ← ey, ty, ← ez, h)
 
-  pub valid-low : (x y : Bool) (z : ℤ) → x ≡ finite a.window_multiplier → x ≡ true
+  pub valid_low : (x y : Bool) (z : ℤ) → x ≡ finite a.window_multiplier → x ≡ true
       → y ≡ finite a.intersend_delay.0 → y ≡ true
       → z ≡ a.window_increment → le_z (negsuc 999999) z ≡ false → le_z (negsuc 999999) z ≡ valid_of a
   unfolding valid_of
-  valid-low x y z ex tx ey ty ez h = rw (← ex, tx, ← ey, ty, ← ez, h)
+  valid_low x y z ex tx ey ty ez h = rw (← ex, tx, ← ey, ty, ← ez, h)
 
-  pub valid-not-second : (x y : Bool) → x ≡ finite a.window_multiplier → x ≡ true
+  pub valid_not_second : (x y : Bool) → x ≡ finite a.window_multiplier → x ≡ true
       → y ≡ finite a.intersend_delay.0 → y ≡ false → false ≡ valid_of a
   unfolding valid_of
-  valid-not-second x y ex tx ey ty = rw (← ex, tx, ← ey, ty)
+  valid_not_second x y ex tx ey ty = rw (← ex, tx, ← ey, ty)
 
-  pub valid-not-first : (x : Bool) → x ≡ finite a.window_multiplier → x ≡ false → false ≡ valid_of a
+  pub valid_not_first : (x : Bool) → x ≡ finite a.window_multiplier → x ≡ false → false ≡ valid_of a
   unfolding valid_of
-  valid-not-first x ex tx = rw (← ex, tx)
+  valid_not_first x ex tx = rw (← ex, tx)
 
 -- ---- the window rule
 pub rule_is : (a : Action) (w : ℕ) → held_of (sum_of a w) (cut_outside (product_of a w)) ≡ rule_of a w

@@ -1,5 +1,5 @@
 -- 01, "action.rs": which actions are valid, and the window rule.
-use Rattle.std.specs.Prelude.{Bool, true, false, ◌&&◌, ◌||◌, cond, ℕ, ◌*◌, ◌/◌, ◌-◌, ◌^◌, min, ltb, ℤ, pos, negsuc, ◌+ℤ◌, Float}
+use Rattle.std.specs.Prelude.{Bool, true, ◌&&◌, ◌||◌, cond, ℕ, ◌*◌, ◌/◌, ◌-◌, ◌^◌, min, ltb, ℤ, pos, negsuc, ◌+ℤ◌, Float}
 use Rattle.std.specs.Int.Signed.{le_z}
 use Rattle.std.specs.Float.{nan, inf, fin, binary64}
 use Rattle.std.specs.Float.Ieee.{up, down, mul, of_int, to_signed}

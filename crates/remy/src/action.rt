@@ -4,7 +4,7 @@ ghost use Rattle.remy.specs.Action.{valid_of, rule_of, window_of, action_of, cut
 
 use quantities::TimeSpan;
 
-#[derive(Drop)]
+#[derive(Clone, Copy)]
 pub struct Action {
     pub window_multiplier: f64,
     pub window_increment: i32,
@@ -12,7 +12,7 @@ pub struct Action {
 }
 
 // The window that an action gives, and whether the rule had to clip it.
-#[derive(Drop)]
+#[derive(Clone, Copy)]
 pub struct Applied {
     pub window: u32,
     pub clipped: bool,

@@ -6,21 +6,21 @@ ghost use Rattle.remy.specs.Cube.{root_of, contains_of, middle_of, half_of, half
 use crate::point::Point;
 use quantities::TimeSpan;
 
-#[derive(Drop)]
+#[derive(Clone, Copy)]
 pub struct Cube {
     pub min: Point,
     pub max: Point,
 }
 
 // The two ends of one axis.
-#[derive(Drop)]
+#[derive(Clone, Copy)]
 struct Ends {
     lo: f64,
     hi: f64,
 }
 
 // The child of a cube that lies toward a point, and its number.
-#[derive(Drop)]
+#[derive(Clone, Copy)]
 pub struct Child {
     pub number: u16,
     pub cube: Cube,

@@ -1,3 +1,5 @@
+#![tactic(auto)]
+
 pub mod action;
 pub mod cube;
 pub mod point;

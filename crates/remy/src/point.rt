@@ -4,7 +4,7 @@ ghost use Rattle.remy.specs.Cube.{usual_ends, point_of, point_equal, end_admitte
 
 use quantities::TimeSpan;
 
-#[derive(Drop)]
+#[derive(Clone, Copy)]
 pub struct Point {
     pub ack_ewma: TimeSpan,
     pub send_ewma: TimeSpan,

@@ -1,5 +1,5 @@
 -- The step back and the step undo each other. Assumes nothing.
-use Rattle.std.proofs.Common.{◌≡◌, ℕ, ◌^◌, ◌<◌, sym, ap, ◌∙◌, ap₂}
+use Rattle.std.proofs.Common.{◌≡◌, ℕ, ◌^◌, ◌<◌, ap, ◌∙◌, ap₂}
 use lib.Bits.{bit_xor, xor_comm, xor_lt}
 use Rattle.xoshiro.specs.declared.State.{State}
 use Rattle.xoshiro.specs.Xoshiro.{shifted, rotated, smeared, next_of, back_of}

@@ -1,10 +1,10 @@
 -- Only the state of four zeros steps to it, or back to it. Assumes nothing.
-use Rattle.std.proofs.Common.{◌≡◌, ℕ, ◌+◌, ◌*◌, ◌/◌, ◌%◌, ◌^◌, ◌<◌, Bool, true, false, ◌&&◌, eqb, sym, refl, ap, ◌∙◌, arith, eqb-true}
+use Rattle.std.proofs.Common.{◌≡◌, ℕ, ◌^◌, ◌<◌, Bool, true, false, ◌&&◌, eqb, sym, refl, ap, ◌∙◌, arith, eqb-true}
 use lib.Bits.{bit_xor, xor_zero_r}
 use Rattle.xoshiro.specs.declared.State.{State}
 use Rattle.xoshiro.specs.Xoshiro.{shifted, rotated, smeared, zeros, zeros_of, next_of, back_of}
-use Rattle.xoshiro.proofs.Words.{xor_back, xor_undo, smeared_undo, rotated_undo}
-use Rattle.xoshiro.proofs.Inverse.{Held, back_step, step_back}
+use Rattle.xoshiro.proofs.Words.{xor_back, smeared_undo, rotated_undo}
+use Rattle.xoshiro.proofs.Inverse.{Held, step_back}
 
 -- a ^ b is 0 where a is b alone
 xor_none : (a b : ℕ) → bit_xor a b ≡ 0 → a ≡ b

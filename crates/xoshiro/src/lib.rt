@@ -1,11 +1,13 @@
 // xoshiro256++ of Blackman and Vigna, its step back, and numbers drawn in a range.
+#![tactic(auto)]
+
 ghost use Rattle.std.specs.Prelude.{◌≡◌};
 ghost use Rattle.xoshiro.specs.Xoshiro.{draw_of};
 ghost use Rattle.xoshiro.specs.Calls.{new_of, step_of, step_back_of};
 
 pub mod inner;
 
-#[derive(Drop)]
+#[derive(Clone, Copy)]
 pub struct State {
     pub s0: u64,
     pub s1: u64,
@@ -14,26 +16,26 @@ pub struct State {
 }
 
 // A state after a step, with the output that the step gave.
-#[derive(Drop)]
+#[derive(Clone, Copy)]
 pub struct Stepped {
     pub output: u64,
     pub state: State,
 }
 
-#[derive(Drop)]
+#[derive(Clone, Copy)]
 pub enum Turn {
     Taken(Stepped),
     Refused(u32),
 }
 
-#[derive(Drop)]
+#[derive(Clone, Copy)]
 pub enum Made {
     Ready(State),
     Refused(u32),
 }
 
 // A number of a range, or none where the range is empty.
-#[derive(Drop)]
+#[derive(Clone, Copy)]
 pub enum Drawn {
     Number(u32),
     Nothing,

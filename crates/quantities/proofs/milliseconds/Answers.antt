@@ -1,0 +1,8 @@
+-- `milliseconds` divides by 1000. Assumes nothing.
+use mathlib.Core.Path.{refl}
+use lib.Ieee.{of_bits}
+use Rattle.quantities.proofs.milliseconds.Goals as goal
+
+pub returns : goal.returns
+unfolding of_bits
+returns c = refl
