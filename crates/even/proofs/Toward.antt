@@ -9,7 +9,7 @@ use Rattle.remy.specs.declared.cube.Cube.{Cube}
 use Rattle.remy.specs.declared.cube.Child.{Child}
 use Rattle.remy.specs.Cube.{usual_ends, root_of, child_cube, contains_of, place_of_point, toward_of, Whole}
 use Rattle.remy.proofs.Ends.{whole_admitted, usual_admitted}
-use Rattle.remy.proofs.Partition.{whole-child, child-inside, no-child, place-holds, place-only, place_below}
+use Rattle.remy.proofs.Partition.{whole_child, child_inside, no_child, place_holds, place_only, place_below}
 use Rattle.even.specs.declared.Placed.TheVariants.{Row, Nothing}
 use Rattle.even.specs.Even.{even_cube, row_of}
 use Rattle.even.proofs.Rows.{first_row, no_row}
@@ -43,15 +43,15 @@ module _ (p : Point) where
         let x : (c * 8 + d) / 8 ≡ c = omega arith in
         let y : (c * 8 + d) % 8 ≡ d = omega arith in
         ap₂ (λ (i j : ℕ). contains_of (child_cube (child_cube box i) j) p) x y
-        ∙ place-holds (child_cube box c) (whole-child box whole c) p (place-holds box whole p e)
+        ∙ place_holds (child_cube box c) (whole_child box whole c) p (place_holds box whole p e)
 
     one : (j : ℕ) → j < 64 → contains_of (even_cube j) p ≡ true → j ≡ toward_row p
     unfolding even_cube
     one j l h =
-        let w = whole-child box whole (j / 8) in
+        let w = whole_child box whole (j / 8) in
         let x : j / 8 ≡ place_of_point box p =
-        place-only box whole p (j / 8) (omega arith) (child-inside (child_cube box (j / 8)) w p (j % 8) h) in
-        let y : j % 8 ≡ place_of_point (child_cube box (j / 8)) p = place-only (child_cube box (j / 8)) w p (j % 8) (omega arith) h in
+        place_only box whole p (j / 8) (omega arith) (child_inside (child_cube box (j / 8)) w p (j % 8) h) in
+        let y : j % 8 ≡ place_of_point (child_cube box (j / 8)) p = place_only (child_cube box (j / 8)) w p (j % 8) (omega arith) h in
         let z : j ≡ j / 8 * 8 + j % 8 = omega arith in
         z ∙ ap₂ (λ (a b : ℕ). a * 8 + b) x (y ∙ ap (λ (a : ℕ). place_of_point (child_cube box a) p) x)
 
@@ -65,10 +65,10 @@ module _ (p : Point) where
     pub row_inside : row_of p ≡ Row (toward_row p)
     row_inside = first_row 64 0 (toward_row p) p (omega arith) below (λ j a l. others j l) holds
 
-  pub row-outside : contains_of box p ≡ false → row_of p ≡ Nothing
+  pub row_outside : contains_of box p ≡ false → row_of p ≡ Nothing
   unfolding even_cube
-  row-outside e =
-      no_row 64 0 p (λ j a l. no-child (child_cube box (j / 8)) (whole-child box whole (j / 8)) p (no-child box whole p e (j / 8)) (j % 8))
+  row_outside e =
+      no_row 64 0 p (λ j a l. no_child (child_cube box (j / 8)) (whole_child box whole (j / 8)) p (no_child box whole p e (j / 8)) (j % 8))
 
 -- ---- what the code holds
 pub small : (c : Cube) (p : Point) (a : Child) → a ≡ toward_of c p → a.number < 8
@@ -86,4 +86,4 @@ two_turns r p a b z e x y =
     ∙ sym (row_inside p (ap (λ (c : Cube). contains_of c p) (sym z) ∙ e))
 
 pub no_turn : (r : Cube) (p : Point) → r ≡ box → contains_of r p ≡ false → Nothing ≡ row_of p
-no_turn r p z e = sym (row-outside p (ap (λ (c : Cube). contains_of c p) (sym z) ∙ e))
+no_turn r p z e = sym (row_outside p (ap (λ (c : Cube). contains_of c p) (sym z) ∙ e))

@@ -1,4 +1,6 @@
 // The even tree, the root split and then nodes 1 to 8 in order, as a constant: the bounds of its 64 leaves, and which of them holds a point.
+#![tactic(auto)]
+
 ghost use Rattle.std.specs.Prelude.{◌≡◌, ◌<◌};
 ghost use Rattle.even.specs.Even.{even_cube, even_bounds, row_of};
 
@@ -38,7 +40,7 @@ const BOUNDS: [f64; 384] = [
 ];
 
 // Where a point lies in the table.
-#[derive(Drop)]
+#[derive(Clone, Copy)]
 pub enum Placed {
     Row(u16),
     Nothing,

@@ -55,43 +55,43 @@ module _ (x : ℤ) (f : SFits w32 x) where
       → to_z w64 (of_z w64 (to_z w64 (of_z w64 (to_z w32 (of_z w32 x))) +ℤ pos 4294967296)) ≡ pos (of_z w32 x)
   sum_back h = to_z-of_z w64 _ (sum_fits h) ∙ sum_is h
 
-  pub sum-cast : lt_z (to_z w64 (of_z w64 (to_z w32 (of_z w32 x)))) (pos 0) ≡ true
+  pub sum_cast : lt_z (to_z w64 (of_z w64 (to_z w32 (of_z w32 x)))) (pos 0) ≡ true
       → Cast (to_z w64 (of_z w64 (to_z w64 (of_z w64 (to_z w32 (of_z w32 x))) +ℤ pos 4294967296)))
-  sum-cast h = subst Cast (sym (sum_back h)) (bits_cast x f)
+  sum_cast h = subst Cast (sym (sum_back h)) (bits_cast x f)
 
-  pub sum-bits : lt_z (to_z w64 (of_z w64 (to_z w32 (of_z w32 x)))) (pos 0) ≡ true
+  pub sum_bits : lt_z (to_z w64 (of_z w64 (to_z w32 (of_z w32 x)))) (pos 0) ≡ true
       → nat_abs (to_z w64 (of_z w64 (to_z w64 (of_z w64 (to_z w32 (of_z w32 x))) +ℤ pos 4294967296))) ≡ of_z w32 x
-  sum-bits h = ap nat_abs (sum_back h)
+  sum_bits h = ap nat_abs (sum_back h)
 
   whole_is : lt_z (to_z w64 (of_z w64 (to_z w32 (of_z w32 x)))) (pos 0) ≡ false
       → to_z w64 (of_z w64 (to_z w32 (of_z w32 x))) ≡ pos (of_z w32 x)
   whole_is h = wide_is x f ∙ unraised x (ap (λ (z : ℤ). lt_z z (pos 0)) (sym (wide_is x f)) ∙ h)
 
-  pub whole-cast : lt_z (to_z w64 (of_z w64 (to_z w32 (of_z w32 x)))) (pos 0) ≡ false
+  pub whole_cast : lt_z (to_z w64 (of_z w64 (to_z w32 (of_z w32 x)))) (pos 0) ≡ false
       → Cast (to_z w64 (of_z w64 (to_z w32 (of_z w32 x))))
-  whole-cast h = subst Cast (sym (whole_is h)) (bits_cast x f)
+  whole_cast h = subst Cast (sym (whole_is h)) (bits_cast x f)
 
-  pub whole-bits : lt_z (to_z w64 (of_z w64 (to_z w32 (of_z w32 x)))) (pos 0) ≡ false
+  pub whole_bits : lt_z (to_z w64 (of_z w64 (to_z w32 (of_z w32 x)))) (pos 0) ≡ false
       → nat_abs (to_z w64 (of_z w64 (to_z w32 (of_z w32 x)))) ≡ of_z w32 x
-  whole-bits h = ap nat_abs (whole_is h)
+  whole_bits h = ap nat_abs (whole_is h)
 
 -- ---- the number of given bits
 pub low_wide : (b : ℕ) → Fits w32 b → SFits w64 (pos b)
 low_wide b f = record { sfits = omega (arith, f.fits) }
 
 module _ (b : ℕ) (f : Fits w32 b) where
-  wide-pos : to_z w64 b ≡ pos b
-  wide-pos = to_z_pos w64 b (omega (arith, f.fits))
+  wide_pos : to_z w64 b ≡ pos b
+  wide_pos = to_z_pos w64 b (omega (arith, f.fits))
 
   pub low_fits : b < 2147483648 → SFits w32 (to_z w64 b)
-  low_fits h = subst (SFits w32) (sym wide-pos) (record { sfits = omega arith })
+  low_fits h = subst (SFits w32) (sym wide_pos) (record { sfits = omega arith })
 
   pub low-is : to_z w32 (of_z w32 (to_z w64 b)) ≡ to_z w32 b
-  low-is = ap (λ (z : ℤ). to_z w32 (of_z w32 z)) wide-pos
+  low-is = ap (λ (z : ℤ). to_z w32 (of_z w32 z)) wide_pos
 
   lowered : 2147483648 ≤ b → to_z w64 b -ℤ pos 4294967296 ≡ to_z w32 b
   lowered h =
-      ap (λ (z : ℤ). z -ℤ pos 4294967296) wide-pos
+      ap (λ (z : ℤ). z -ℤ pos 4294967296) wide_pos
       ∙ rw (lt-ltb b 4294967296 f.fits, le-ltb b 2147483648 h)
 
   back_fits : SFits w32 (to_z w32 b)
@@ -100,11 +100,11 @@ module _ (b : ℕ) (f : Fits w32 b) where
   pub high_fits : 2147483648 ≤ b → SFits w64 (to_z w64 b -ℤ pos 4294967296)
   high_fits h = subst (SFits w64) (sym (lowered h)) (wider _ back_fits)
 
-  high-back : 2147483648 ≤ b → to_z w64 (of_z w64 (to_z w64 b -ℤ pos 4294967296)) ≡ to_z w32 b
-  high-back h = to_z-of_z w64 _ (high_fits h) ∙ lowered h
+  high_back : 2147483648 ≤ b → to_z w64 (of_z w64 (to_z w64 b -ℤ pos 4294967296)) ≡ to_z w32 b
+  high_back h = to_z-of_z w64 _ (high_fits h) ∙ lowered h
 
-  pub high-cast : 2147483648 ≤ b → SFits w32 (to_z w64 (of_z w64 (to_z w64 b -ℤ pos 4294967296)))
-  high-cast h = subst (SFits w32) (sym (high-back h)) back_fits
+  pub high_cast : 2147483648 ≤ b → SFits w32 (to_z w64 (of_z w64 (to_z w64 b -ℤ pos 4294967296)))
+  high_cast h = subst (SFits w32) (sym (high_back h)) back_fits
 
   pub high_is : 2147483648 ≤ b → to_z w32 (of_z w32 (to_z w64 (of_z w64 (to_z w64 b -ℤ pos 4294967296)))) ≡ to_z w32 b
-  high_is h = ap (λ (z : ℤ). to_z w32 (of_z w32 z)) (high-back h) ∙ to_z-of_z w32 _ back_fits
+  high_is h = ap (λ (z : ℤ). to_z w32 (of_z w32 z)) (high_back h) ∙ to_z-of_z w32 _ back_fits
