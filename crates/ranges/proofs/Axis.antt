@@ -27,8 +27,8 @@ join_3 a b c p q r = and_i a (b && c) p (and_i b c q r)
 -- ---- one axis
 module _ (lo hi min max : Float) where
   -- a value of both passes the test
-  pub meets-from : (x : Float) → T (between lo hi x) → T (within min max x) → T (meets lo hi min max)
-  meets-from x b w =
+  pub meets_from : (x : Float) → T (between lo hi x) → T (within min max x) → T (meets lo hi min max)
+  meets_from x b w =
       let l = and_l (le lo x) (le x hi) b in
       let h = and_r (le lo x) (le x hi) b in
       let m = and_l (le min x) (lt x max) w in
@@ -42,8 +42,8 @@ module _ (lo hi min max : Float) where
     pub between : T (between lo hi value)
     pub within : T (within min max value)
 
-  pub meets-gives : T (le lo hi) → T (meets lo hi min max) → Both
-  meets-gives o t =
+  pub meets_gives : T (le lo hi) → T (meets lo hi min max) → Both
+  meets_gives o t =
       let k = split_3 (lt lo max) (le min hi) (lt min max) t in
       let nl = le_nn_l lo hi o in
       let nm = le_nn_l min hi k.1.0 in
@@ -71,7 +71,7 @@ meets_held x min max t =
 held_meets : (x min max : Float) → T (within min max x) → T (meets x x min max)
 held_meets x min max w =
     let s = le_self x (le_nn_r min x (and_l (le min x) (lt x max) w)) in
-    meets-from x x min max x (and_i (le x x) (le x x) s s) w
+    meets_from x x min max x (and_i (le x x) (le x x) s s) w
 
 -- ---- the three axes
 split_each_lem : (f : (Point → Float) → Bool) → T (each f) → T (f ack) × (T (f send) × T (f ratio))
@@ -100,17 +100,17 @@ module _ (c : Cube) (r : Ranges) where
   abbrev met : (Point → Float) → Bool
   met axis = meets (axis (lowest_of r)) (axis (highest_of r)) (axis c.min) (axis c.max)
 
-  reach-from : (p : Point) → T (in_ranges r p) → T (contains_of c p) → T (reachable c r)
+  reach_from : (p : Point) → T (in_ranges r p) → T (contains_of c p) → T (reachable c r)
   unfolding in_ranges contains_of reachable
-  reach-from p b w =
-      each_from (ranged p) (held p) met (λ axis s t. meets-from (axis (lowest_of r)) (axis (highest_of r)) (axis c.min) (axis c.max) (axis p) s t) b w
+  reach_from p b w =
+      each_from (ranged p) (held p) met (λ axis s t. meets_from (axis (lowest_of r)) (axis (highest_of r)) (axis c.min) (axis c.max) (axis p) s t) b w
 
   on : (axis : Point → Float) → T (ordered axis) → T (met axis) → Both (axis (lowest_of r)) (axis (highest_of r)) (axis c.min) (axis c.max)
-  on axis o t = meets-gives (axis (lowest_of r)) (axis (highest_of r)) (axis c.min) (axis c.max) o t
+  on axis o t = meets_gives (axis (lowest_of r)) (axis (highest_of r)) (axis c.min) (axis c.max) o t
 
-  reach-gives : Fits c.min → Fits (lowest_of r) → T (ordered_of r) → T (reachable c r) → Met c r
+  reach_gives : Fits c.min → Fits (lowest_of r) → T (ordered_of r) → T (reachable c r) → Met c r
   unfolding in_ranges contains_of reachable
-  reach-gives f g o t =
+  reach_gives f g o t =
       let x = split_each_lem ordered o in
       let y = split_each_lem met t in
       let a = on ack x.0 y.0 in
@@ -125,10 +125,10 @@ module _ (c : Cube) (r : Ranges) where
       }
 
   -- some point within the ranges lies in the cube exactly where, on each axis, lo < max, min <= hi and min < max
-  pub met-exactly : Fits c.min → Fits (lowest_of r) → ordered_of r ≡ true → Met c r ↔ (reachable c r ≡ true)
-  met-exactly f g o = (
-    λ m. is_true (reachable c r) (reach-from m.point (passes (in_ranges r m.point) m.within) (passes (contains_of c m.point) m.inside)),
-    λ t. reach-gives f g (passes (ordered_of r) o) (passes (reachable c r) t),
+  pub met_exactly : Fits c.min → Fits (lowest_of r) → ordered_of r ≡ true → Met c r ↔ (reachable c r ≡ true)
+  met_exactly f g o = (
+    λ m. is_true (reachable c r) (reach_from m.point (passes (in_ranges r m.point) m.within) (passes (contains_of c m.point) m.inside)),
+    λ t. reach_gives f g (passes (ordered_of r) o) (passes (reachable c r) t),
   )
 
 -- "Where both ends are equal on all three axes": the test is whether the cube holds the point

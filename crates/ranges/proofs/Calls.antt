@@ -27,13 +27,13 @@ pub cut_fits : (n : ℕ) (leaves found : List ℕ) → n ≡ length found → ta
 cut_fits n leaves found e are = cut_inside n leaves (cut_long n leaves found e are)
 
 module _ (t : RuleTree) (r : Ranges) (xs : List ℕ) where
-  pub not-grown : grown_of t ≡ false → (Refused 10 ≡ leaves_of t r xs) × (xs ≡ list_after t r xs)
+  pub not_grown : grown_of t ≡ false → (Refused 10 ≡ leaves_of t r xs) × (xs ≡ list_after t r xs)
   unfolding leaves_of list_after
-  not-grown g = (rw g, rw g)
+  not_grown g = (rw g, rw g)
 
-  pub not-ordered : grown_of t ≡ true → ordered_of r ≡ false → (Refused 28 ≡ leaves_of t r xs) × (xs ≡ list_after t r xs)
+  pub not_ordered : grown_of t ≡ true → ordered_of r ≡ false → (Refused 28 ≡ leaves_of t r xs) × (xs ≡ list_after t r xs)
   unfolding leaves_of list_after
-  not-ordered g o = (rw (g, o), rw (g, o))
+  not_ordered g o = (rw (g, o), rw (g, o))
 
   pub too_short : grown_of t ≡ true → ordered_of r ≡ true → (n : ℕ) → n ≡ length (leaves_within t r) → length xs < n
       → (Refused 29 ≡ leaves_of t r xs) × (xs ≡ list_after t r xs)

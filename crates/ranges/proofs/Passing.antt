@@ -1,5 +1,5 @@
 -- The numbers that pass a test: those and no others, rising; one more number at a time; written from the front of a list. Assumes nothing.
-use mathlib.Core.Path.{◌≡◌, refl, sym, ap, subst, ◌∙◌}
+use mathlib.Core.Path.{◌≡◌, refl, ap, subst, ◌∙◌}
 use mathlib.Core.Bool.{Bool, true, false, cond}
 use mathlib.Core.List.{List, [], ◌∷◌, ◌++◌, append-nil}
 use mathlib.Core.Logic.{◌⊎◌, inl, inr, ⊎_elim}
@@ -28,12 +28,12 @@ module _ (test : ℕ → Bool) where
       go true rest h = (omega arith, h)
       go false rest h = rising_from i (suc i) rest (omega arith) h
 
-  pub listed-passes : (n i k : ℕ) → Listed k (passing test i n) → (i ≤ k) × ((k < i + n) × (test k ≡ true))
+  pub listed_passes : (n i k : ℕ) → Listed k (passing test i n) → (i ≤ k) × ((k < i + n) × (test k ≡ true))
   unfolding passing
-  listed-passes zero i k h = absurd h
-  listed-passes (suc n) i k h =
+  listed_passes zero i k h = absurd h
+  listed_passes (suc n) i k h =
       go (test i) refl (passing test (suc i) n)
-      (λ m. let w = listed-passes n (suc i) k m in (omega (arith, w.0), (omega (arith, w.1.0), w.1.1))) h
+      (λ m. let w = listed_passes n (suc i) k m in (omega (arith, w.0), (omega (arith, w.1.0), w.1.1))) h
     where
       go :
           (b : Bool) → test i ≡ b → (rest : List ℕ) → (Listed k rest → (i ≤ k) × ((k < i + suc n) × (test k ≡ true)))
@@ -41,11 +41,11 @@ module _ (test : ℕ → Bool) where
       go true e rest later m = ⊎_elim (λ (z : i ≡ k). (omega arith, (omega arith, subst (λ (j : ℕ). test j ≡ true) z e))) later m
       go false e rest later m = later m
 
-  pub passes-listed : (n i k : ℕ) → i ≤ k → k < i + n → test k ≡ true → Listed k (passing test i n)
+  pub passes_listed : (n i k : ℕ) → i ≤ k → k < i + n → test k ≡ true → Listed k (passing test i n)
   unfolding passing
-  passes-listed zero i k a b t = absurd (omega arith)
-  passes-listed (suc n) i k a b t =
-      go (test i) refl (passing test (suc i) n) (λ l. passes-listed n (suc i) k (omega arith) (omega arith) t) (eq-or-lt_of_le a)
+  passes_listed zero i k a b t = absurd (omega arith)
+  passes_listed (suc n) i k a b t =
+      go (test i) refl (passing test (suc i) n) (λ l. passes_listed n (suc i) k (omega arith) (omega arith) t) (eq-or-lt_of_le a)
     where
       go : (c : Bool) → test i ≡ c → (rest : List ℕ) → (i < k → Listed k rest) → (i ≡ k) ⊎ (i < k) → Listed k (cond c (i ∷ rest) rest)
       go true e rest later (inl z) = inl z
@@ -85,32 +85,32 @@ module _ (test : ℕ → Bool) where
   longer true i xs ys = refl
   longer false i xs ys = refl
 
-  passing-suc : (n i k : ℕ) → k ≡ i + n → passing test i (suc n) ≡ passing test i n ++ cond (test k) (k ∷ []) []
+  passing_suc : (n i k : ℕ) → k ≡ i + n → passing test i (suc n) ≡ passing test i n ++ cond (test k) (k ∷ []) []
   unfolding passing
-  passing-suc zero i k e = let z : i ≡ k = omega arith in ap (λ (j : ℕ). cond (test j) (j ∷ []) []) z
-  passing-suc (suc n) i k e =
-      ap (λ (rest : List ℕ). cond (test i) (i ∷ rest) rest) (passing-suc n (suc i) k (omega arith))
+  passing_suc zero i k e = let z : i ≡ k = omega arith in ap (λ (j : ℕ). cond (test j) (j ∷ []) []) z
+  passing_suc (suc n) i k e =
+      ap (λ (rest : List ℕ). cond (test i) (i ∷ rest) rest) (passing_suc n (suc i) k (omega arith))
       ∙ longer (test i) i (passing test (suc i) n) (cond (test k) (k ∷ []) [])
 
-  pub passing-few : (n i : ℕ) → length (passing test i n) ≤ n
+  pub passing_few : (n i : ℕ) → length (passing test i n) ≤ n
   unfolding passing
-  passing-few zero i = omega arith
-  passing-few (suc n) i = go (test i) (passing test (suc i) n) (passing-few n (suc i))
+  passing_few zero i = omega arith
+  passing_few (suc n) i = go (test i) (passing test (suc i) n) (passing_few n (suc i))
     where
       go : (b : Bool) (rest : List ℕ) → length rest ≤ n → length (cond b (i ∷ rest) rest) ≤ suc n
       go true rest h = omega arith
       go false rest h = omega arith
 
-  pub passing-none : passing test 0 0 ≡ []
+  pub passing_none : passing test 0 0 ≡ []
   unfolding passing
-  passing-none = refl
+  passing_none = refl
 
-  pub passing-hit : (n : ℕ) → test n ≡ true → passing test 0 (n + 1) ≡ passing test 0 n ++ n ∷ []
-  passing-hit n h =
-      ap (passing test 0) (let e : n + 1 ≡ suc n = omega arith in e) ∙ passing-suc n 0 n (omega arith)
+  pub passing_hit : (n : ℕ) → test n ≡ true → passing test 0 (n + 1) ≡ passing test 0 n ++ n ∷ []
+  passing_hit n h =
+      ap (passing test 0) (let e : n + 1 ≡ suc n = omega arith in e) ∙ passing_suc n 0 n (omega arith)
       ∙ ap (λ (b : Bool). passing test 0 n ++ cond b (n ∷ []) []) h
 
-  pub passing-miss : (n : ℕ) → test n ≡ false → passing test 0 (n + 1) ≡ passing test 0 n
-  passing-miss n h =
-      ap (passing test 0) (let e : n + 1 ≡ suc n = omega arith in e) ∙ passing-suc n 0 n (omega arith)
+  pub passing_miss : (n : ℕ) → test n ≡ false → passing test 0 (n + 1) ≡ passing test 0 n
+  passing_miss n h =
+      ap (passing test 0) (let e : n + 1 ≡ suc n = omega arith in e) ∙ passing_suc n 0 n (omega arith)
       ∙ ap (λ (b : Bool). passing test 0 n ++ cond b (n ∷ []) []) h ∙ append-nil (passing test 0 n)

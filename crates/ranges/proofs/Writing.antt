@@ -6,9 +6,9 @@ use Prim.Native.Nat.{ℕ, suc, ◌+◌, ◌<◌, ◌≤◌}
 use native.Mathlib.Nat.{add-zero, zero-add, add-suc, suc-add}
 use native.Mathlib.Omega.{arith}
 use lib.ListN.{length, get_or, set, take, drop, replicate, length-append, length-replicate, length-set}
-use lib.Seq.{sets, sets-eq, length-sets, take_at, take-suc, take_all, length-take-le}
+use lib.Seq.{sets, sets-eq, take_at, take-suc, take_all, length-take-le}
 use Rattle.ranges.specs.Ranges.{passing}
-use Rattle.ranges.proofs.Passing.{passing-none, passing-hit, passing-miss, passing-few}
+use Rattle.ranges.proofs.Passing.{passing_none, passing_hit, passing_miss, passing_few}
 
 -- one more at the end
 sets_snoc : (ls xs : List ℕ) (at x : ℕ) → set (sets xs at ls) (at + length ls) x ≡ sets xs at (ls ++ x ∷ [])
@@ -42,20 +42,20 @@ module _ (holds : ℕ → Bool) where
   none_held =
       record {
         full = zeros_full;
-        count = ap length (sym (passing-none holds));
-        are = ap (sets zeros 0) (sym (passing-none holds));
+        count = ap length (sym (passing_none holds));
+        are = ap (sets zeros 0) (sym (passing_none holds));
       }
 
   module _ (leaves : List ℕ) (number i : ℕ) (h : Holding holds leaves number i) where
     pub held_few : number ≤ i
-    held_few = let e = h.count in let f = passing-few holds i 0 in omega arith
+    held_few = let e = h.count in let f = passing_few holds i 0 in omega arith
 
-    pub held-as : (out : List ℕ) (n : ℕ) → out ≡ leaves → n ≡ number → Holding holds out n i
-    held-as out n e f = record { full = ap length e ∙ h.full; count = f ∙ h.count; are = e ∙ h.are }
+    pub held_as_lem : (out : List ℕ) (n : ℕ) → out ≡ leaves → n ≡ number → Holding holds out n i
+    held_as_lem out n e f = record { full = ap length e ∙ h.full; count = f ∙ h.count; are = e ∙ h.are }
 
-    pub held-hit : holds i ≡ true → Holding holds (set leaves number i) (number + 1) (i + 1)
-    held-hit w =
-        let e = passing-hit holds i w in
+    pub held_hit : holds i ≡ true → Holding holds (set leaves number i) (number + 1) (i + 1)
+    held_hit w =
+        let e = passing_hit holds i w in
         record {
           full = length-set leaves number i ∙ h.full;
           count = ap (λ (k : ℕ). k + 1) h.count ∙ sym (length-append (passing holds 0 i) (i ∷ [])) ∙ ap length (sym e);
@@ -63,9 +63,9 @@ module _ (holds : ℕ → Bool) where
               ∙ ap (sets zeros 0) (sym e);
         }
 
-    pub held-miss : holds i ≡ false → Holding holds leaves number (i + 1)
-    held-miss w =
-        let e = passing-miss holds i w in
+    pub held_miss : holds i ≡ false → Holding holds leaves number (i + 1)
+    held_miss w =
+        let e = passing_miss holds i w in
         record { full = h.full; count = h.count ∙ ap length (sym e); are = h.are ∙ ap (sets zeros 0) (sym e) }
 
     pub held_all : (n : ℕ) → i ≤ n → n ≤ i → n ≤ 513
@@ -73,7 +73,7 @@ module _ (holds : ℕ → Bool) where
     held_all n a b l =
         let e : i ≡ n = omega arith in
         let ls = passing holds 0 i in
-        let few : length ls ≤ length zeros = (let f = passing-few holds i 0 in let k = zeros_full in omega (arith, k, f)) in (
+        let few : length ls ≤ length zeros = (let f = passing_few holds i 0 in let k = zeros_full in omega (arith, k, f)) in (
           h.count ∙ ap (λ (k : ℕ). length (passing holds 0 k)) e,
           ap (λ (k : ℕ). take k leaves) h.count ∙ ap (take (length ls)) h.are ∙ written_back ls zeros few
               ∙ ap (passing holds 0) e,

@@ -1,5 +1,5 @@
 -- 02, wish 12: memory known only within ranges, and the leaves that some point within them could reach.
-use Rattle.std.specs.Prelude.{Bool, true, false, ◌&&◌, cond, List, [], ◌∷◌, ℕ, zero, suc, leb, Float, length}
+use Rattle.std.specs.Prelude.{Bool, ◌&&◌, cond, List, [], ◌∷◌, ℕ, zero, suc, leb, Float, length}
 use Rattle.std.specs.Float.Ieee.{le, lt}
 use Rattle.std.proofs.lemmas.List.Edits.{sets}
 use Rattle.refusal.specs.Numbers.{not_grown, bad_ranges, short_list}

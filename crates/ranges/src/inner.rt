@@ -13,7 +13,7 @@ use rule_tree::inner::{cubes, links};
 use rule_tree::{NODES, Node, RuleTree, SPLITS};
 
 // The leaves found: the first number places.
-#[derive(Drop)]
+#[derive(Clone, Copy)]
 pub struct Listed {
     pub leaves: [u16; NODES],
     pub number: u16,

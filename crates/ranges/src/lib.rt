@@ -1,4 +1,6 @@
 // Memory known only within ranges: the leaves that some point within them reaches.
+#![tactic(auto)]
+
 ghost use Rattle.std.specs.Prelude.{◌≡◌};
 ghost use Rattle.std.specs.Float.Ieee.{le};
 ghost use Rattle.ranges.specs.Ranges.{meets, ordered_of, reachable, leaves_of, list_after};
@@ -9,13 +11,13 @@ use rule_tree::RuleTree;
 pub mod inner;
 
 // One axis, known to lie between a lowest and a highest value, both counted.
-#[derive(Drop)]
+#[derive(Clone, Copy)]
 pub struct Range {
     pub lowest: f64,
     pub highest: f64,
 }
 
-#[derive(Drop)]
+#[derive(Clone, Copy)]
 pub struct Ranges {
     pub ack_ewma: Range,
     pub send_ewma: Range,
@@ -23,7 +25,7 @@ pub struct Ranges {
 }
 
 // How many leaves were found.
-#[derive(Drop)]
+#[derive(Clone, Copy)]
 pub enum Leaves {
     Found(u16),
     Refused(u32),

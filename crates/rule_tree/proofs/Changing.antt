@@ -9,7 +9,7 @@ use borrow.Author.Tests.{lt-ltb, le-ltb, eq-eqb, ne_eqb, eqb-true, eqb-false, lt
 use lib.Dec.{eqb, ltb}
 use lib.ListN.{length, get_or, set, replicate, length-set, length-map, length-replicate, get_or-replicate, get_or-map}
 use lib.Seq.{get_or-set_same, get_or-set_other, set-get_or, map-set_same}
-use lib.Ieee.{binary64, to_bits, eq}
+use lib.Ieee.{binary64, to_bits}
 use mir.Syntax.{w32}
 use mir.Val.{of_z}
 use Rattle.remy.specs.declared.action.Action.{Action}
@@ -27,7 +27,7 @@ use Rattle.rule_tree.specs.Calls.{leaf_in}
 use Rattle.rule_tree.proofs.Lists.{length_fill, get_d_fill, get_d_fill_other}
 use Rattle.rule_tree.proofs.ChangeWays.{unmarked_leaf_lem}
 use Rattle.rule_tree.proofs.Links.{link_more}
-use Rattle.rule_tree.proofs.GrownTree.{Grown, Parent, child-at, grown-facts, facts-grown, grown-long, link_none, link_from, link_parts, slot_used, slot_unused, leaf_below, leaf_childless, leaf-valid, unused-childless}
+use Rattle.rule_tree.proofs.GrownTree.{Grown, Parent, child-at, grown_facts, facts_grown, grown_long, link_none, link_from, link_parts, slot_used, slot_unused, leaf_below, leaf_childless, leaf_valid, unused_childless}
 
 same_or : (i j : ℕ) → (i ≡ j) ⊎ (i ≢ j)
 same_or i j = go (eqb i j) refl
@@ -57,72 +57,72 @@ links_grown t nodes g e h =
 
 -- ---- one node stored, with the children that it had
 module _ (t : RuleTree) (i : ℕ) (x : Node) where
-  pub stored-links : x.children ≡ (node_at_of t.nodes i).children → children_of (set t.nodes i x) ≡ children_of t.nodes
-  stored-links e = map-set_same (λ (y : Node). y.children) t.nodes i x no_node e
+  pub stored_links : x.children ≡ (node_at_of t.nodes i).children → children_of (set t.nodes i x) ≡ children_of t.nodes
+  stored_links e = map-set_same (λ (y : Node). y.children) t.nodes i x no_node e
 
   stored-grown :
       Grown t → i < 513 → x.children ≡ (node_at_of t.nodes i).children → slot_holds x (ltb i (node_count t.splits)) ≡ true
       → Grown (with_nodes t (set t.nodes i x))
   stored-grown g l e h =
-      links_grown t (set t.nodes i x) g (stored-links e)
+      links_grown t (set t.nodes i x) g (stored_links e)
       (λ j b. ⊎_elim
       (λ (p : j ≡ i). subst (λ (k : ℕ). slot_holds (node_at_of (set t.nodes i x) k) (ltb k (node_count t.splits)) ≡ true) (sym p)
-      (ap (λ (y : Node). slot_holds y (ltb i (node_count t.splits))) (get_or-set_same t.nodes i x no_node (omega (arith, grown-long t g))) ∙ h))
+      (ap (λ (y : Node). slot_holds y (ltb i (node_count t.splits))) (get_or-set_same t.nodes i x no_node (omega (arith, grown_long t g))) ∙ h))
       (λ (p : j ≢ i). ap (λ (y : Node). slot_holds y (ltb j (node_count t.splits))) (get_or-set_other t.nodes i j x no_node p) ∙ g.slots j b)
       (same_or j i))
 
 -- ---- another action
 module _ (t : RuleTree) (i : ℕ) (a : Action) where
-  pub action-length : length (with_action t i a).nodes ≡ length t.nodes
-  action-length = length-set t.nodes i _
+  pub action_length : length (with_action t i a).nodes ≡ length t.nodes
+  action_length = length-set t.nodes i _
 
-  pub action-at :
+  pub action_at_lem :
       i < length t.nodes
       → node_at_of (with_action t i a).nodes i ≡ node_holding a (node_at_of t.nodes i).children (node_at_of t.nodes i).optimized
-  action-at l = get_or-set_same t.nodes i _ no_node l
+  action_at_lem l = get_or-set_same t.nodes i _ no_node l
 
-  pub action-other : (j : ℕ) → j ≢ i → node_at_of (with_action t i a).nodes j ≡ node_at_of t.nodes j
-  action-other j n = get_or-set_other t.nodes i j _ no_node n
+  pub action_other : (j : ℕ) → j ≢ i → node_at_of (with_action t i a).nodes j ≡ node_at_of t.nodes j
+  action_other j n = get_or-set_other t.nodes i j _ no_node n
 
-  pub action-links : children_of (with_action t i a).nodes ≡ children_of t.nodes
-  action-links = stored-links t i _ refl
+  pub action_links : children_of (with_action t i a).nodes ≡ children_of t.nodes
+  action_links = stored_links t i _ refl
 
-  pub action-leaves : (j : ℕ) → leaf_in (with_action t i a) j ≡ leaf_in t j
-  action-leaves = links_leaves t (with_action t i a).nodes action-links
+  pub action_leaves : (j : ℕ) → leaf_in (with_action t i a) j ≡ leaf_in t j
+  action_leaves = links_leaves t (with_action t i a).nodes action_links
 
-  pub action-grown : grown_of t ≡ true → leaf_in t i ≡ true → valid_of a ≡ true → grown_of (with_action t i a) ≡ true
-  action-grown h l v =
-      let g = grown-facts t h in
+  pub action_grown : grown_of t ≡ true → leaf_in t i ≡ true → valid_of a ≡ true → grown_of (with_action t i a) ≡ true
+  action_grown h l v =
+      let g = grown_facts t h in
       let b = leaf_below t i l in
-      facts-grown (with_action t i a)
+      facts_grown (with_action t i a)
       (stored-grown t i _ g (omega (arith, g.few)) refl (slot_used _ _ (lt-ltb i (node_count t.splits) b) ∙ v))
 
 -- ---- a mark
 module _ (t : RuleTree) (i : ℕ) where
-  pub mark-length : length (with_mark t i).nodes ≡ length t.nodes
-  mark-length = length-set t.nodes i _
+  pub mark_length : length (with_mark t i).nodes ≡ length t.nodes
+  mark_length = length-set t.nodes i _
 
-  pub mark-at :
+  pub mark_at :
       i < length t.nodes
       → node_at_of (with_mark t i).nodes i ≡ node_holding (action_in (node_at_of t.nodes i)) (node_at_of t.nodes i).children true
-  mark-at l = get_or-set_same t.nodes i _ no_node l
+  mark_at l = get_or-set_same t.nodes i _ no_node l
 
-  pub mark-other : (j : ℕ) → j ≢ i → node_at_of (with_mark t i).nodes j ≡ node_at_of t.nodes j
-  mark-other j n = get_or-set_other t.nodes i j _ no_node n
+  pub mark_other : (j : ℕ) → j ≢ i → node_at_of (with_mark t i).nodes j ≡ node_at_of t.nodes j
+  mark_other j n = get_or-set_other t.nodes i j _ no_node n
 
-  pub mark-links : children_of (with_mark t i).nodes ≡ children_of t.nodes
-  mark-links = stored-links t i _ refl
+  pub mark_links : children_of (with_mark t i).nodes ≡ children_of t.nodes
+  mark_links = stored_links t i _ refl
 
-  pub mark-leaves : (j : ℕ) → leaf_in (with_mark t i) j ≡ leaf_in t j
-  mark-leaves = links_leaves t (with_mark t i).nodes mark-links
+  pub mark_leaves : (j : ℕ) → leaf_in (with_mark t i) j ≡ leaf_in t j
+  mark_leaves = links_leaves t (with_mark t i).nodes mark_links
 
-  pub mark-grown : grown_of t ≡ true → leaf_in t i ≡ true → grown_of (with_mark t i) ≡ true
-  mark-grown h l =
-      let g = grown-facts t h in
+  pub mark_grown : grown_of t ≡ true → leaf_in t i ≡ true → grown_of (with_mark t i) ≡ true
+  mark_grown h l =
+      let g = grown_facts t h in
       let b = leaf_below t i l in
-      facts-grown (with_mark t i)
+      facts_grown (with_mark t i)
       (stored-grown t i _ g (omega (arith, g.few)) refl
-      (slot_used _ _ (lt-ltb i (node_count t.splits) b) ∙ leaf-valid t g i l))
+      (slot_used _ _ (lt-ltb i (node_count t.splits) b) ∙ leaf_valid t g i l))
 
 -- ---- marks cleared
 unmarked_children : (x : Node) → (unmarked_node x).children ≡ x.children
@@ -170,30 +170,30 @@ unmarked_action x = go (eqb x.children 0)
     go false = refl
 
 module _ (t : RuleTree) where
-  pub clear-length : length (without_marks t).nodes ≡ length t.nodes
-  clear-length = length-map t.nodes unmarked_node
+  pub clear_length : length (without_marks t).nodes ≡ length t.nodes
+  clear_length = length-map t.nodes unmarked_node
 
   pub clear_at : (j : ℕ) → node_at_of (without_marks t).nodes j ≡ unmarked_node (node_at_of t.nodes j)
   unfolding unmarked_node
   clear_at j = get_or-map unmarked_node t.nodes j no_node
 
-  pub clear-links : children_of (without_marks t).nodes ≡ children_of t.nodes
-  clear-links = unmarked_links t.nodes
+  pub clear_links : children_of (without_marks t).nodes ≡ children_of t.nodes
+  clear_links = unmarked_links t.nodes
 
-  pub clear-leaves : (j : ℕ) → leaf_in (without_marks t) j ≡ leaf_in t j
-  clear-leaves = links_leaves t (without_marks t).nodes clear-links
+  pub clear_leaves : (j : ℕ) → leaf_in (without_marks t) j ≡ leaf_in t j
+  clear_leaves = links_leaves t (without_marks t).nodes clear_links
 
-  pub clear-action : (j : ℕ) → action_in (node_at_of (without_marks t).nodes j) ≡ action_in (node_at_of t.nodes j)
-  clear-action j = ap action_in (clear_at j) ∙ unmarked_action (node_at_of t.nodes j)
+  pub clear_action : (j : ℕ) → action_in (node_at_of (without_marks t).nodes j) ≡ action_in (node_at_of t.nodes j)
+  clear_action j = ap action_in (clear_at j) ∙ unmarked_action (node_at_of t.nodes j)
 
-  pub clear-mark : (j : ℕ) → leaf_in t j ≡ true → (node_at_of (without_marks t).nodes j).optimized ≡ false
-  clear-mark j l = ap (λ (x : Node). x.optimized) (clear_at j ∙ sym (unmarked_leaf_lem (node_at_of t.nodes j) (leaf_childless t j l)))
+  pub clear_mark : (j : ℕ) → leaf_in t j ≡ true → (node_at_of (without_marks t).nodes j).optimized ≡ false
+  clear_mark j l = ap (λ (x : Node). x.optimized) (clear_at j ∙ sym (unmarked_leaf_lem (node_at_of t.nodes j) (leaf_childless t j l)))
 
-  pub clear-grown : grown_of t ≡ true → grown_of (without_marks t) ≡ true
-  clear-grown h =
-      let g = grown-facts t h in
-      facts-grown (without_marks t)
-      (links_grown t (without_marks t).nodes g clear-links
+  pub clear_grown : grown_of t ≡ true → grown_of (without_marks t) ≡ true
+  clear_grown h =
+      let g = grown_facts t h in
+      facts_grown (without_marks t)
+      (links_grown t (without_marks t).nodes g clear_links
       (λ i l. ap (λ (y : Node). slot_holds y (ltb i (node_count t.splits))) (clear_at i) ∙ unmarked_slot _ _ (g.slots i l)))
 
 -- ---- a new tree
@@ -228,7 +228,7 @@ fresh_facts e a v h =
     }
 
 pub fresh_grown : (e : Point) (a : Action) → valid_of a ≡ true → ends_hold e ≡ true → grown_of (fresh_tree e a) ≡ true
-fresh_grown e a v h = facts-grown (fresh_tree e a) (fresh_facts e a v h)
+fresh_grown e a v h = facts_grown (fresh_tree e a) (fresh_facts e a v h)
 
 pub usual_ends_lem : ends_hold usual_ends ≡ true
 unfolding ends_hold
@@ -280,35 +280,35 @@ unfolding split_at_of
 split_is t i = refl
 
 module _ (t : RuleTree) (i : ℕ) where
-  pub split-length : length (split_at_of t i).nodes ≡ length t.nodes
-  split-length =
+  pub split_length : length (split_at_of t i).nodes ≡ length t.nodes
+  split_length =
       ap (λ (r : RuleTree). length r.nodes) (sym (split_is t i))
       ∙ length_fill (set t.nodes i (linked_to (node_at_of t.nodes i) (8 * t.splits + 1))) (8 * t.splits + 1) 8 _
       ∙ length-set t.nodes i _
 
-  pub split-splits : (split_at_of t i).splits ≡ t.splits + 1
-  split-splits = ap (λ (r : RuleTree). r.splits) (sym (split_is t i))
+  pub split_splits : (split_at_of t i).splits ≡ t.splits + 1
+  split_splits = ap (λ (r : RuleTree). r.splits) (sym (split_is t i))
 
-  pub split-ends : (split_at_of t i).ends ≡ t.ends
-  split-ends = ap (λ (r : RuleTree). r.ends) (sym (split_is t i))
+  pub split_ends : (split_at_of t i).ends ≡ t.ends
+  split_ends = ap (λ (r : RuleTree). r.ends) (sym (split_is t i))
 
-  pub split-parent : i < length t.nodes → i < node_count t.splits → node_at_of (split_at_of t i).nodes i ≡ linked_to (node_at_of t.nodes i) (8 * t.splits + 1)
-  split-parent l b =
+  pub split_parent : i < length t.nodes → i < node_count t.splits → node_at_of (split_at_of t i).nodes i ≡ linked_to (node_at_of t.nodes i) (8 * t.splits + 1)
+  split_parent l b =
       ap (λ (r : RuleTree). node_at_of r.nodes i) (sym (split_is t i))
       ∙ get_d_fill_other (set t.nodes i (linked_to (node_at_of t.nodes i) (8 * t.splits + 1))) (8 * t.splits + 1) 8 _ no_node i (λ k p e. absurd (omega arith))
       ∙ get_or-set_same t.nodes i _ no_node l
 
-  pub split-child :
+  pub split_child :
       8 * t.splits + 9 ≤ length t.nodes → (k : ℕ) → k < 8
       → node_at_of (split_at_of t i).nodes (8 * t.splits + 1 + k) ≡ leaf_with (action_in (node_at_of t.nodes i))
-  split-child l k b =
+  split_child l k b =
       ap (λ (r : RuleTree). node_at_of r.nodes (8 * t.splits + 1 + k)) (sym (split_is t i))
       ∙ get_d_fill (set t.nodes i (linked_to (node_at_of t.nodes i) (8 * t.splits + 1))) (8 * t.splits + 1) 8 _ no_node k b
       (omega (arith, length-set t.nodes i (linked_to (node_at_of t.nodes i) (8 * t.splits + 1))))
 
-  pub split-other :
+  pub split_other :
       (j : ℕ) → j ≢ i → (j < node_count t.splits) ⊎ (node_count (t.splits + 1) ≤ j) → node_at_of (split_at_of t i).nodes j ≡ node_at_of t.nodes j
-  split-other j n o =
+  split_other j n o =
       ap (λ (r : RuleTree). node_at_of r.nodes j) (sym (split_is t i))
       ∙ get_d_fill_other (set t.nodes i (linked_to (node_at_of t.nodes i) (8 * t.splits + 1))) (8 * t.splits + 1) 8 _ no_node j
       (λ k p e. ⊎_elim (λ (b : j < node_count t.splits). absurd (omega arith)) (λ (b : node_count (t.splits + 1) ≤ j). absurd (omega arith)) o)
@@ -341,14 +341,14 @@ old_used s j o =
 -- a leaf of a grown tree with room for one more split
 module _ (t : RuleTree) (i : ℕ) (n : length t.nodes ≡ 513) (g : Grown t) (l : leaf_in t i ≡ true) (r : t.splits < 64) where
   parent : node_at_of (split_at_of t i).nodes i ≡ linked_to (node_at_of t.nodes i) (8 * t.splits + 1)
-  parent = split-parent t i (omega (arith, leaf_below t i l)) (leaf_below t i l)
+  parent = split_parent t i (omega (arith, leaf_below t i l)) (leaf_below t i l)
 
   child : (k : ℕ) → k < 8 → node_at_of (split_at_of t i).nodes (8 * t.splits + 1 + k) ≡ leaf_with (action_in (node_at_of t.nodes i))
-  child k b = split-child t i (omega arith) k b
+  child k b = split_child t i (omega arith) k b
 
   -- of the first children only the new parent's is another
-  split-links : children_of (split_at_of t i).nodes ≡ set (children_of t.nodes) i (8 * t.splits + 1)
-  split-links =
+  split_links : children_of (split_at_of t i).nodes ≡ set (children_of t.nodes) i (8 * t.splits + 1)
+  split_links =
       let cs = children_of t.nodes in
       let b = leaf_below t i l in
       ap (λ (q : RuleTree). children_of q.nodes) (sym (split_is t i))
@@ -357,10 +357,10 @@ module _ (t : RuleTree) (i : ℕ) (n : length t.nodes ≡ 513) (g : Grown t) (l 
       ∙ fill_same (set cs i (8 * t.splits + 1)) (8 * t.splits + 1) 8 0 0
       (λ k p. get_or-set_other cs i (8 * t.splits + 1 + k) (8 * t.splits + 1) 0 (λ e. absurd (omega arith))
       ∙ child-at t.nodes (8 * t.splits + 1 + k)
-      ∙ unused-childless t g (8 * t.splits + 1 + k) (omega arith) (omega arith))
+      ∙ unused_childless t g (8 * t.splits + 1 + k) (omega arith) (omega arith))
 
-  split-link : (j : ℕ) → j < 513 → link_holds (t.splits + 1) (node_at_of (split_at_of t i).nodes j).children j ≡ true
-  split-link j b = go (place t.splits i j) b
+  split_link : (j : ℕ) → j < 513 → link_holds (t.splits + 1) (node_at_of (split_at_of t i).nodes j).children j ≡ true
+  split_link j b = go (place t.splits i j) b
     where
       go : {m : ℕ} → Place t.splits i m → m < 513 → link_holds (t.splits + 1) (node_at_of (split_at_of t i).nodes m).children m ≡ true
       go split b =
@@ -370,22 +370,22 @@ module _ (t : RuleTree) (i : ℕ) (n : length t.nodes ≡ 513) (g : Grown t) (l 
       go (new k p) b =
           link_none (t.splits + 1) _ (8 * t.splits + 1 + k) (ap (λ (x : Node). x.children) (child k p))
       go (old m p o) b =
-          subst (λ (x : Node). link_holds (t.splits + 1) x.children m ≡ true) (sym (split-other t i m p o)) (link_more t.splits (t.splits + 1) _ m (omega arith) (g.links m b))
+          subst (λ (x : Node). link_holds (t.splits + 1) x.children m ≡ true) (sym (split_other t i m p o)) (link_more t.splits (t.splits + 1) _ m (omega arith) (g.links m b))
 
-  split-slot : (j : ℕ) → j < 513 → slot_holds (node_at_of (split_at_of t i).nodes j) (ltb j (node_count (t.splits + 1))) ≡ true
-  split-slot j b = go (place t.splits i j) b
+  split_slot : (j : ℕ) → j < 513 → slot_holds (node_at_of (split_at_of t i).nodes j) (ltb j (node_count (t.splits + 1))) ≡ true
+  split_slot j b = go (place t.splits i j) b
     where
       go : {m : ℕ} → Place t.splits i m → m < 513 → slot_holds (node_at_of (split_at_of t i).nodes m) (ltb m (node_count (t.splits + 1))) ≡ true
       go split b =
           ap (λ (x : Node). slot_holds x (ltb i (node_count (t.splits + 1)))) parent
           ∙ slot_used _ _ (lt-ltb i (node_count (t.splits + 1)) (omega (arith, leaf_below t i l)))
-          ∙ leaf-valid t g i l
+          ∙ leaf_valid t g i l
       go (new k p) b =
           ap (λ (x : Node). slot_holds x (ltb (8 * t.splits + 1 + k) (node_count (t.splits + 1)))) (child k p)
           ∙ slot_used _ _ (lt-ltb (8 * t.splits + 1 + k) (node_count (t.splits + 1)) (omega arith))
-          ∙ leaf-valid t g i l
+          ∙ leaf_valid t g i l
       go (old m p o) b =
-          ap (λ (x : Node). slot_holds x (ltb m (node_count (t.splits + 1)))) (split-other t i m p o)
+          ap (λ (x : Node). slot_holds x (ltb m (node_count (t.splits + 1)))) (split_other t i m p o)
           ∙ ap (slot_holds (node_at_of t.nodes m)) (old_used t.splits m o)
           ∙ g.slots m b
 
@@ -401,13 +401,13 @@ module _ (t : RuleTree) (i : ℕ) (n : length t.nodes ≡ 513) (g : Grown t) (l 
       (k : ℕ)
       → occurrences (8 * k + 1) (children_of (split_at_of t i).nodes) ≡ cond (eqb (8 * t.splits + 1) (8 * k + 1)) 1 0 + occurrences (8 * k + 1) (children_of t.nodes)
   split-count k =
-      ap (occurrences (8 * k + 1)) split-links
+      ap (occurrences (8 * k + 1)) split_links
       ∙ occurrences_set (8 * k + 1) (8 * t.splits + 1) (children_of t.nodes) i
       (omega (arith, length-map t.nodes (λ (x : Node). x.children), leaf_below t i l))
       (λ e. absurd (omega (arith, e, child-at t.nodes i, leaf_childless t i l)))
 
-  split-owner : (k : ℕ) → k < t.splits + 1 → occurrences (8 * k + 1) (children_of (split_at_of t i).nodes) ≡ 1
-  split-owner k b = split-count k ∙ ⊎_elim newest older (same_or k t.splits)
+  split_owner : (k : ℕ) → k < t.splits + 1 → occurrences (8 * k + 1) (children_of (split_at_of t i).nodes) ≡ 1
+  split_owner k b = split-count k ∙ ⊎_elim newest older (same_or k t.splits)
     where
       newest : k ≡ t.splits → cond (eqb (8 * t.splits + 1) (8 * k + 1)) 1 0 + occurrences (8 * k + 1) (children_of t.nodes) ≡ 1
       newest p =
@@ -416,41 +416,41 @@ module _ (t : RuleTree) (i : ℕ) (n : length t.nodes ≡ 513) (g : Grown t) (l 
       older : k ≢ t.splits → cond (eqb (8 * t.splits + 1) (8 * k + 1)) 1 0 + occurrences (8 * k + 1) (children_of t.nodes) ≡ 1
       older p = rw (ne_eqb (8 * t.splits + 1) (8 * k + 1) (λ e. p (omega arith))) (omega (arith, g.owners k (omega arith)))
 
-  split-facts : Grown (split_at_of t i)
-  split-facts =
-      let e = sym (split-splits t i) in
+  split_facts : Grown (split_at_of t i)
+  split_facts =
+      let e = sym (split_splits t i) in
       record {
-        few = omega (arith, split-splits t i);
-        links = λ j b. subst (λ (s : ℕ). link_holds s (node_at_of (split_at_of t i).nodes j).children j ≡ true) e (split-link j b);
-        owners = λ k b. split-owner k (omega (arith, split-splits t i));
-        slots = λ j b. subst (λ (s : ℕ). slot_holds (node_at_of (split_at_of t i).nodes j) (ltb j (node_count s)) ≡ true) e (split-slot j b);
-        box = ap ends_hold (split-ends t i) ∙ g.box;
+        few = omega (arith, split_splits t i);
+        links = λ j b. subst (λ (s : ℕ). link_holds s (node_at_of (split_at_of t i).nodes j).children j ≡ true) e (split_link j b);
+        owners = λ k b. split_owner k (omega (arith, split_splits t i));
+        slots = λ j b. subst (λ (s : ℕ). slot_holds (node_at_of (split_at_of t i).nodes j) (ltb j (node_count s)) ≡ true) e (split_slot j b);
+        box = ap ends_hold (split_ends t i) ∙ g.box;
       }
 
 pub split_grown :
     (t : RuleTree) (i : ℕ) → length t.nodes ≡ 513 → grown_of t ≡ true → leaf_in t i ≡ true → t.splits < 64 → grown_of (split_at_of t i) ≡ true
-split_grown t i n h l r = facts-grown (split_at_of t i) (split-facts t i n (grown-facts t h) l r)
+split_grown t i n h l r = facts_grown (split_at_of t i) (split_facts t i n (grown_facts t h) l r)
 
 -- ---- the leaves after a split
 leaf_split : (t : RuleTree) (i j : ℕ) → leaf_in (split_at_of t i) j ≡ (ltb j (node_count (t.splits + 1)) && eqb (node_at_of (split_at_of t i).nodes j).children 0)
-leaf_split t i j = ap (λ (s : ℕ). ltb j (node_count s) && eqb (node_at_of (split_at_of t i).nodes j).children 0) (split-splits t i)
+leaf_split t i j = ap (λ (s : ℕ). ltb j (node_count s) && eqb (node_at_of (split_at_of t i).nodes j).children 0) (split_splits t i)
 
 module _ (t : RuleTree) (i : ℕ) (n : length t.nodes ≡ 513) (b : i < node_count t.splits) (r : t.splits < 64) where
-  pub split-no-leaf : leaf_in (split_at_of t i) i ≡ false
-  split-no-leaf =
+  pub split_no_leaf : leaf_in (split_at_of t i) i ≡ false
+  split_no_leaf =
       leaf_split t i i
-      ∙ ap (λ (x : Node). ltb i (node_count (t.splits + 1)) && eqb x.children 0) (split-parent t i (omega arith) b)
+      ∙ ap (λ (x : Node). ltb i (node_count (t.splits + 1)) && eqb x.children 0) (split_parent t i (omega arith) b)
       ∙ ap (λ (z : Bool). ltb i (node_count (t.splits + 1)) && z) (ne_eqb (8 * t.splits + 1) 0 (λ e. absurd (omega arith)))
       ∙ and-false (ltb i (node_count (t.splits + 1)))
 
-  pub split-new-leaf : (k : ℕ) → k < 8 → leaf_in (split_at_of t i) (8 * t.splits + 1 + k) ≡ true
-  split-new-leaf k l =
+  pub split_new_leaf : (k : ℕ) → k < 8 → leaf_in (split_at_of t i) (8 * t.splits + 1 + k) ≡ true
+  split_new_leaf k l =
       leaf_split t i (8 * t.splits + 1 + k)
-      ∙ ap (λ (x : Node). ltb (8 * t.splits + 1 + k) (node_count (t.splits + 1)) && eqb x.children 0) (split-child t i (omega arith) k l)
+      ∙ ap (λ (x : Node). ltb (8 * t.splits + 1 + k) (node_count (t.splits + 1)) && eqb x.children 0) (split_child t i (omega arith) k l)
       ∙ ap (λ (z : Bool). z && true) (lt-ltb (8 * t.splits + 1 + k) (node_count (t.splits + 1)) (omega arith))
 
-  pub split-old-leaf : (j : ℕ) → j ≢ i → (j < node_count t.splits) ⊎ (node_count (t.splits + 1) ≤ j) → leaf_in (split_at_of t i) j ≡ leaf_in t j
-  split-old-leaf j p o =
+  pub split_old_leaf : (j : ℕ) → j ≢ i → (j < node_count t.splits) ⊎ (node_count (t.splits + 1) ≤ j) → leaf_in (split_at_of t i) j ≡ leaf_in t j
+  split_old_leaf j p o =
       leaf_split t i j
-      ∙ ap (λ (x : Node). ltb j (node_count (t.splits + 1)) && eqb x.children 0) (split-other t i j p o)
+      ∙ ap (λ (x : Node). ltb j (node_count (t.splits + 1)) && eqb x.children 0) (split_other t i j p o)
       ∙ ap (λ (z : Bool). z && is_leaf_of t.nodes j) (old_used t.splits j o)

@@ -1,6 +1,6 @@
 -- Counts: what each turn of the loops over them adds, and what the most used leaf and an accepted list of counts are. Assumes nothing.
 use mathlib.Core.Path.{◌≡◌, refl, sym, ap, subst, ◌∙◌}
-use mathlib.Core.Bool.{Bool, true, false, not, ◌&&◌, ◌||◌, cond, or-true}
+use mathlib.Core.Bool.{Bool, true, false, not, ◌||◌, cond, or-true}
 use mathlib.Core.Logic.{⊎_elim}
 use mathlib.Core.List.{List}
 use Prim.Native.Nat.{ℕ, zero, suc, ◌+◌, ◌*◌, ◌-◌, ◌<◌, ◌≤◌}
@@ -73,50 +73,50 @@ pub record Holding (nodes : List Node) (xs : List ℕ) (u : Bool) (i : ℕ) (fou
   pub count : most ≡ cond found (get_or xs best 0) 0
 
 module _ (nodes : List Node) (xs : List ℕ) (u : Bool) where
-  pub holding-moved :
+  pub holding_moved :
       (i : ℕ) (f g : Bool) (b c m n : ℕ) → Holding nodes xs u i f b m → g ≡ f → c ≡ b → n ≡ m → Holding nodes xs u i g c n
-  holding-moved i f g b c m n h p q r = rw (p, q, r) h
+  holding_moved i f g b c m n h p q r = rw (p, q, r) h
 
-  pub holding-none : Holding nodes xs u 0 false 0 0
+  pub holding_none : Holding nodes xs u 0 false 0 0
   unfolding most_used
-  holding-none = record { chosen = refl; count = refl }
+  holding_none = record { chosen = refl; count = refl }
 
-  pub holding-skip :
+  pub holding_skip :
       (i : ℕ) (f : Bool) (b m : ℕ) → Holding nodes xs u i f b m → eligible (node_at_of nodes i) u ≡ false → Holding nodes xs u (i + 1) f b m
   unfolding most_used
-  holding-skip i f b m h e = record { chosen = rw (add-one i, e) h.chosen; count = h.count }
+  holding_skip i f b m h e = record { chosen = rw (add-one i, e) h.chosen; count = h.count }
 
-  pub holding-taken :
+  pub holding_taken :
       (i : ℕ) (f : Bool) (b m : ℕ) → Holding nodes xs u i f b m → eligible (node_at_of nodes i) u ≡ true → m ≤ get_or xs i 0
       → Holding nodes xs u (i + 1) true i (get_or xs i 0)
   unfolding most_used better
-  holding-taken i true b m h e l =
+  holding_taken i true b m h e l =
       record {
         chosen = rw (add-one i, e, h.chosen, le-leb (get_or xs b 0) (get_or xs i 0) (omega (arith, h.count)));
         count = refl;
       }
-  holding-taken i false b m h e l = record { chosen = rw (add-one i, e, h.chosen); count = refl }
+  holding_taken i false b m h e l = record { chosen = rw (add-one i, e, h.chosen); count = refl }
 
-  pub holding-kept :
+  pub holding_kept :
       (i : ℕ) (f : Bool) (b m : ℕ) → Holding nodes xs u i f b m → eligible (node_at_of nodes i) u ≡ true → get_or xs i 0 < m
       → Holding nodes xs u (i + 1) f b m
   unfolding most_used better
-  holding-kept i true b m h e l =
+  holding_kept i true b m h e l =
       record {
         chosen = rw (add-one i, e, h.chosen, lt-leb (get_or xs b 0) (get_or xs i 0) (omega (arith, h.count)));
         count = h.count;
       }
-  holding-kept i false b m h e l = absurd (omega (arith, h.count))
+  holding_kept i false b m h e l = absurd (omega (arith, h.count))
 
-  pub holding-leaf :
+  pub holding_leaf :
       (i : ℕ) (f : Bool) (b m : ℕ) → i ≤ length xs → length xs ≤ i → Holding nodes xs u i f b m → f ≡ true → Leaf b ≡ most_used nodes xs u (length xs)
-  holding-leaf i f b m l g h e =
+  holding_leaf i f b m l g h e =
       let p : i ≡ length xs = omega arith in
       sym (subst (λ (k : ℕ). most_used nodes xs u k ≡ Leaf b) p (h.chosen ∙ ap (λ (t : Bool). cond t (Leaf b) Nobody) e))
 
-  pub holding-nobody :
+  pub holding_nobody :
       (i : ℕ) (f : Bool) (b m : ℕ) → i ≤ length xs → length xs ≤ i → Holding nodes xs u i f b m → f ≡ false → Nobody ≡ most_used nodes xs u (length xs)
-  holding-nobody i f b m l g h e =
+  holding_nobody i f b m l g h e =
       let p : i ≡ length xs = omega arith in
       sym (subst (λ (k : ℕ). most_used nodes xs u k ≡ Nobody) p (h.chosen ∙ ap (λ (t : Bool). cond t (Leaf b) Nobody) e))
 
@@ -182,25 +182,25 @@ module _ (nodes : List Node) (xs : List ℕ) (u : Bool) where
   abbrev asks : ℕ → Bool
   asks i = eligible (node_at_of nodes i) u
 
-  true-is : (b : Bool) → b ≡ false → b ≡ true → ⊥
-  true-is b p q = let z : ◌≡◌ {A = ℕ} 0 1 = cc in omega arith
+  true_is : (b : Bool) → b ≡ false → b ≡ true → ⊥
+  true_is b p q = let z : ◌≡◌ {A = ℕ} 0 1 = cc in omega arith
 
   -- a node that is not asked for changes nothing
-  says-skip : (n : ℕ) (m : Chosen) → asks n ≡ false → Says nodes xs u n m → Says nodes xs u (suc n) m
-  says-skip n (Leaf b) e h =
+  says_skip : (n : ℕ) (m : Chosen) → asks n ≡ false → Says nodes xs u n m → Says nodes xs u (suc n) m
+  says_skip n (Leaf b) e h =
       record {
         below = omega (arith, h.below);
         asked = h.asked;
         greatest =
-            λ i l a. ⊎_elim (λ (p : i ≡ n). absurd (true-is (asks n) e (subst (λ (k : ℕ). asks k ≡ true) p a))) (λ (q : i < n). h.greatest i q a)
+            λ i l a. ⊎_elim (λ (p : i ≡ n). absurd (true_is (asks n) e (subst (λ (k : ℕ). asks k ≡ true) p a))) (λ (q : i < n). h.greatest i q a)
             (eq-or-lt_of_le (omega arith));
         highest =
-            λ i l a s. ⊎_elim (λ (p : i ≡ n). absurd (true-is (asks n) e (subst (λ (k : ℕ). asks k ≡ true) p a))) (λ (q : i < n). h.highest i q a s)
+            λ i l a s. ⊎_elim (λ (p : i ≡ n). absurd (true_is (asks n) e (subst (λ (k : ℕ). asks k ≡ true) p a))) (λ (q : i < n). h.highest i q a s)
             (eq-or-lt_of_le (omega arith));
       }
-  says-skip n Nobody e h =
+  says_skip n Nobody e h =
       λ i l. ⊎_elim (λ (p : i ≡ n). subst (λ (k : ℕ). asks k ≡ false) (sym p) e) (λ (q : i < n). h i q) (eq-or-lt_of_le (omega arith))
-  says-skip n (Refused k) e h = h
+  says_skip n (Refused k) e h = h
 
   -- the newest node, with a count no lower than any before it
   newest : (n : ℕ) → asks n ≡ true → ((i : ℕ) → i < n → asks i ≡ true → get_or xs i 0 ≤ get_or xs n 0) → MostUsed nodes xs u (suc n) n
@@ -227,50 +227,50 @@ module _ (nodes : List Node) (xs : List ℕ) (u : Bool) where
             (eq-or-lt_of_le (omega arith));
       }
 
-  says-better : (n : ℕ) (m : Chosen) → asks n ≡ true → Says nodes xs u n m → Says nodes xs u (suc n) (better xs n m)
+  says_better : (n : ℕ) (m : Chosen) → asks n ≡ true → Says nodes xs u n m → Says nodes xs u (suc n) (better xs n m)
   unfolding better
-  says-better n (Leaf b) e h = go (leb (get_or xs b 0) (get_or xs n 0)) refl
+  says_better n (Leaf b) e h = go (leb (get_or xs b 0) (get_or xs n 0)) refl
     where
       go : (t : Bool) → leb (get_or xs b 0) (get_or xs n 0) ≡ t → Says nodes xs u (suc n) (cond t (Leaf n) (Leaf b))
       go true p = newest n e (λ i l a. omega (arith, h.greatest i l a, leb-true (get_or xs b 0) (get_or xs n 0) p))
       go false p = kept n b (leb-false (get_or xs b 0) (get_or xs n 0) p) h
-  says-better n Nobody e h = newest n e (λ i l a. absurd (true-is (asks i) (h i l) a))
-  says-better n (Refused k) e h = h
+  says_better n Nobody e h = newest n e (λ i l a. absurd (true_is (asks i) (h i l) a))
+  says_better n (Refused k) e h = h
 
-  pub most-used-says : (n : ℕ) → Says nodes xs u n (most_used nodes xs u n)
+  pub most_used_says : (n : ℕ) → Says nodes xs u n (most_used nodes xs u n)
   unfolding most_used
-  most-used-says zero = λ i l. absurd (omega arith)
-  most-used-says (suc n) = go (asks n) refl (most_used nodes xs u n) (most-used-says n)
+  most_used_says zero = λ i l. absurd (omega arith)
+  most_used_says (suc n) = go (asks n) refl (most_used nodes xs u n) (most_used_says n)
     where
       go : (t : Bool) → asks n ≡ t → (m : Chosen) → Says nodes xs u n m → Says nodes xs u (suc n) (cond t (better xs n m) m)
-      go true e m h = says-better n m e h
-      go false e m h = says-skip n m e h
+      go true e m h = says_better n m e h
+      go false e m h = says_skip n m e h
 
-  pub most-used-leaf : (n b : ℕ) → most_used nodes xs u n ≡ Leaf b → MostUsed nodes xs u n b
-  most-used-leaf n b e = subst (Says nodes xs u n) e (most-used-says n)
+  pub most_used_leaf : (n b : ℕ) → most_used nodes xs u n ≡ Leaf b → MostUsed nodes xs u n b
+  most_used_leaf n b e = subst (Says nodes xs u n) e (most_used_says n)
 
-  pub most-used-nobody : (n : ℕ) → most_used nodes xs u n ≡ Nobody → (i : ℕ) → i < n → eligible (node_at_of nodes i) u ≡ false
-  most-used-nobody n e = subst (Says nodes xs u n) e (most-used-says n)
+  pub most_used_nobody : (n : ℕ) → most_used nodes xs u n ≡ Nobody → (i : ℕ) → i < n → eligible (node_at_of nodes i) u ≡ false
+  most_used_nobody n e = subst (Says nodes xs u n) e (most_used_says n)
 
-  pub most-used-answers : (n k : ℕ) → most_used nodes xs u n ≡ Refused k → ⊥
-  most-used-answers n k e = subst (Says nodes xs u n) e (most-used-says n)
+  pub most_used_answers : (n k : ℕ) → most_used nodes xs u n ≡ Refused k → ⊥
+  most_used_answers n k e = subst (Says nodes xs u n) e (most_used_says n)
 
   -- where one of the first n nodes is asked for, some leaf is the answer
-  pub most-used-found : (n i : ℕ) → i < n → eligible (node_at_of nodes i) u ≡ true → (b : ℕ) × (most_used nodes xs u n ≡ Leaf b)
-  most-used-found n i l a = go (most_used nodes xs u n) refl
+  pub most_used_found : (n i : ℕ) → i < n → eligible (node_at_of nodes i) u ≡ true → (b : ℕ) × (most_used nodes xs u n ≡ Leaf b)
+  most_used_found n i l a = go (most_used nodes xs u n) refl
     where
       go : (m : Chosen) → most_used nodes xs u n ≡ m → (b : ℕ) × (most_used nodes xs u n ≡ Leaf b)
       go (Leaf b) e = (b, e)
-      go Nobody e = absurd (true-is (asks i) (most-used-nobody n e i l) a)
-      go (Refused k) e = absurd (most-used-answers n k e)
+      go Nobody e = absurd (true_is (asks i) (most_used_nobody n e i l) a)
+      go (Refused k) e = absurd (most_used_answers n k e)
 
   -- and it is the only node with those three properties
-  pub most-used-only : (n b : ℕ) → MostUsed nodes xs u n b → most_used nodes xs u n ≡ Leaf b
-  most-used-only n b h = go (most-used-found n b h.below h.asked)
+  pub most_used_only : (n b : ℕ) → MostUsed nodes xs u n b → most_used nodes xs u n ≡ Leaf b
+  most_used_only n b h = go (most_used_found n b h.below h.asked)
     where
       go : (a : ℕ) × (most_used nodes xs u n ≡ Leaf a) → most_used nodes xs u n ≡ Leaf b
       go r =
-          let m = most-used-leaf n r.0 r.1 in
+          let m = most_used_leaf n r.0 r.1 in
           let x = h.greatest r.0 m.below m.asked in
           let y = m.greatest b h.below h.asked in
           let p : get_or xs r.0 0 ≡ get_or xs b 0 = omega arith in
@@ -286,7 +286,7 @@ any_leaf nodes i h = rw h
 
 pub most_used_of_leaves : (nodes : List Node) (xs : List ℕ) (n i : ℕ) → i < n → is_leaf_of nodes i ≡ true → most_used nodes xs false n ≡ Nobody → ⊥
 most_used_of_leaves nodes xs n i l h e =
-    let z : ◌≡◌ {A = Bool} true false = sym (any_leaf nodes i h) ∙ most-used-nobody nodes xs false n e i l in
+    let z : ◌≡◌ {A = Bool} true false = sym (any_leaf nodes i h) ∙ most_used_nobody nodes xs false n e i l in
     let w : ◌≡◌ {A = ℕ} 0 1 = cc in
     omega arith
 

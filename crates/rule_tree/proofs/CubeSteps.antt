@@ -32,8 +32,8 @@ unfolding cube_at
 step_cube d ps root i n = rw (ne_eqb i 0 n)
 
 module _ (ps : List ℕ) (root : Cube) (low : Low ps) where
-  pub parent-before : (i : ℕ) → i < slots → (i ≡ 0 → ⊥) → parent_of ps i < i
-  parent-before i b n = let z : 0 < i = positive i n in omega (arith, low ((i - 1) / 8) (omega arith))
+  pub parent_before : (i : ℕ) → i < slots → (i ≡ 0 → ⊥) → parent_of ps i < i
+  parent_before i b n = let z : 0 < i = positive i n in omega (arith, low ((i - 1) / 8) (omega arith))
     where
       positive : (i : ℕ) → (i ≡ 0 → ⊥) → 0 < i
       positive zero n = absurd (n refl)
@@ -45,17 +45,17 @@ module _ (ps : List ℕ) (root : Cube) (low : Low ps) where
   fuel (suc d) (suc e) i b p q =
       ⊎_elim (λ (z : i ≡ 0). root_cube (suc d) ps root i z ∙ sym (root_cube (suc e) ps root i z))
       (λ (n : i ≡ 0 → ⊥).
-      let l : parent_of ps i < i = parent-before i b n in
+      let l : parent_of ps i < i = parent_before i b n in
       step_cube d ps root i n
       ∙ ap (λ (c : Cube). child_cube c ((i - 1) % 8)) (fuel d e (parent_of ps i) (omega arith) (omega arith) (omega arith))
       ∙ sym (step_cube e ps root i n))
       (same_or_not i 0)
 
   -- child (i - 1) % 8 of its parent
-  pub child-step : (i : ℕ) → i < slots → (i ≡ 0 → ⊥)
+  pub child_step : (i : ℕ) → i < slots → (i ≡ 0 → ⊥)
       → cube_at i ps root i ≡ child_cube (cube_at (parent_of ps i) ps root (parent_of ps i)) ((i - 1) % 8)
-  child-step i b n =
-      let l : parent_of ps i < i = parent-before i b n in
+  child_step i b n =
+      let l : parent_of ps i < i = parent_before i b n in
       fuel i (suc (i - 1)) i b (omega arith) (omega arith) ∙ step_cube (i - 1) ps root i n
       ∙ ap (λ (c : Cube). child_cube c ((i - 1) % 8))
       (fuel (i - 1) (parent_of ps i) (parent_of ps i) (omega arith) (omega arith) (omega arith))

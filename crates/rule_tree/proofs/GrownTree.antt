@@ -22,8 +22,8 @@ use Rattle.rule_tree.proofs.Lists.{all_below_at, all_below_all, get_d_tabulate, 
 use Rattle.rule_tree.proofs.Owners.{same_or_not}
 pub use Rattle.rule_tree.proofs.LinkWays.{children_at as child-at}
 pub use Rattle.rule_tree.proofs.Links.{link_leaf as link_none}
-use Rattle.rule_tree.proofs.Links.{link_of_lem, link_holds_lem, grown-splits, grown-own-links, grown-occurs, grown-slot-holds, grown-ends-hold, grown-unused-leaf, grown-valid}
-use Rattle.rule_tree.proofs.Counting.{counts_accepted, most-used-leaf, most-used-found, any_leaf, eligible_leaf}
+use Rattle.rule_tree.proofs.Links.{link_of_lem, link_holds_lem, grown_splits, grown_own_links, grown_occurs, grown_slot_holds, grown_ends_hold, grown_unused_leaf, grown_valid}
+use Rattle.rule_tree.proofs.Counting.{counts_accepted, most_used_leaf, most_used_found, any_leaf, eligible_leaf}
 
 pub record Grown (t : RuleTree) : Type 0 where
   pub few : t.splits ≤ 64
@@ -42,19 +42,19 @@ unfolding linked_of
 linked-is cs s = refl
 
 module _ (t : RuleTree) where
-  pub grown-facts : grown_of t ≡ true → Grown t
-  grown-facts h = record {
-    few = grown-splits t h;
+  pub grown_facts : grown_of t ≡ true → Grown t
+  grown_facts h = record {
+    few = grown_splits t h;
     links =
         λ i p. subst (λ (c : ℕ). link_holds t.splits c i ≡ true) (child-at t.nodes i)
-        (all_below_at 513 i (λ j. link_holds t.splits (get_or (children_of t.nodes) j 0) j) (grown-own-links t h) p);
-    owners = grown-occurs t h;
-    slots = grown-slot-holds t h;
-    box = grown-ends-hold t h;
+        (all_below_at 513 i (λ j. link_holds t.splits (get_or (children_of t.nodes) j 0) j) (grown_own_links t h) p);
+    owners = grown_occurs t h;
+    slots = grown_slot_holds t h;
+    box = grown_ends_hold t h;
   }
 
-  pub facts-grown : Grown t → grown_of t ≡ true
-  facts-grown g =
+  pub facts_grown : Grown t → grown_of t ≡ true
+  facts_grown g =
       grown_is t
       ∙ and_both (linked_of (children_of t.nodes) t.splits) _
       (linked-is _ _
@@ -113,8 +113,8 @@ leaf_from t i l e = and_both (ltb i (node_count t.splits)) (is_leaf_of t.nodes i
 -- ---- a grown tree
 module _ (t : RuleTree) (g : Grown t) where
   -- the array is whole: what lies past a list's end is no slot
-  pub grown-long : 513 ≤ length t.nodes
-  grown-long = go (leb 513 (length t.nodes)) refl
+  pub grown_long : 513 ≤ length t.nodes
+  grown_long = go (leb 513 (length t.nodes)) refl
     where
       go : (b : Bool) → leb 513 (length t.nodes) ≡ b → 513 ≤ length t.nodes
       go true e = leb-true 513 (length t.nodes) e
@@ -127,8 +127,8 @@ module _ (t : RuleTree) (g : Grown t) where
           (g.slots (length t.nodes) l))
 
   -- a slot that is not in use has no children
-  pub unused-childless : (i : ℕ) → i < 513 → node_count t.splits ≤ i → (node_at_of t.nodes i).children ≡ 0
-  unused-childless i l u = grown-unused-leaf t (facts-grown t g) i u l
+  pub unused_childless : (i : ℕ) → i < 513 → node_count t.splits ≤ i → (node_at_of t.nodes i).children ≡ 0
+  unused_childless i l u = grown_unused_leaf t (facts_grown t g) i u l
 
   -- the last node is a leaf
   pub last_leaf : leaf_in t (8 * t.splits) ≡ true
@@ -139,24 +139,24 @@ module _ (t : RuleTree) (g : Grown t) where
       (link_parts _ _ _ (g.links (8 * t.splits) (omega (arith, g.few)))))
 
   -- a node's action is valid, and so a leaf's
-  pub node-valid : (i : ℕ) → i < node_count t.splits → valid_of (action_in (node_at_of t.nodes i)) ≡ true
-  node-valid i l = grown-valid t (facts-grown t g) i l
+  pub node_valid : (i : ℕ) → i < node_count t.splits → valid_of (action_in (node_at_of t.nodes i)) ≡ true
+  node_valid i l = grown_valid t (facts_grown t g) i l
 
-  pub leaf-valid : (i : ℕ) → leaf_in t i ≡ true → valid_of (action_in (node_at_of t.nodes i)) ≡ true
-  leaf-valid i h = node-valid i (leaf_below t i h)
+  pub leaf_valid : (i : ℕ) → leaf_in t i ≡ true → valid_of (action_in (node_at_of t.nodes i)) ≡ true
+  leaf_valid i h = node_valid i (leaf_below t i h)
 
 -- ---- the most used of a tree's leaves
 module _ (t : RuleTree) (xs : List ℕ) (c : counts_hold t xs ≡ true) where
   -- whichever leaves are asked for, the answer names a leaf
-  pub chosen-leaf : (u : Bool) (b : ℕ) → most_used t.nodes xs u (length xs) ≡ Leaf b → leaf_in t b ≡ true
-  chosen-leaf u b e =
-      let m = most-used-leaf t.nodes xs u (length xs) b e in
+  pub chosen_leaf_lem : (u : Bool) (b : ℕ) → most_used t.nodes xs u (length xs) ≡ Leaf b → leaf_in t b ≡ true
+  chosen_leaf_lem u b e =
+      let m = most_used_leaf t.nodes xs u (length xs) b e in
       leaf_from t b (omega (arith, m.below, (counts_accepted t xs c).one_a_node)) (eligible_leaf (node_at_of t.nodes b) u m.asked)
 
   -- with no leaf left out there is an answer
-  pub chosen-found : grown_of t ≡ true → (b : ℕ) × (most_used t.nodes xs false (length xs) ≡ Leaf b)
-  chosen-found h =
-      let l = last_leaf t (grown-facts t h) in
-      most-used-found t.nodes xs false (length xs) (8 * t.splits)
+  pub chosen_found : grown_of t ≡ true → (b : ℕ) × (most_used t.nodes xs false (length xs) ≡ Leaf b)
+  chosen_found h =
+      let l = last_leaf t (grown_facts t h) in
+      most_used_found t.nodes xs false (length xs) (8 * t.splits)
       (omega (arith, (counts_accepted t xs c).one_a_node))
       (any_leaf t.nodes (8 * t.splits) (and_right (ltb (8 * t.splits) (node_count t.splits)) (is_leaf_of t.nodes (8 * t.splits)) l))

@@ -17,11 +17,11 @@ use Rattle.rule_tree.specs.Grown.{links_hold, grown_of}
 use Rattle.rule_tree.specs.Walk.{walk_of}
 use Rattle.rule_tree.specs.Calls.{found_in}
 use Rattle.rule_tree.specs.Leaf.{Ready, leaf_holding, found_by}
-use Rattle.rule_tree.proofs.Links.{grown-walkable}
+use Rattle.rule_tree.proofs.Links.{grown_walkable}
 use Rattle.rule_tree.proofs.Walking.{walk_leaf}
 
 pub ready : (t : RuleTree) {cs : List ℕ} {root : Cube} → grown_of t ≡ true → Whole (root_of t.ends) → cs ≡ children_of t.nodes → root ≡ root_of t.ends → Ready cs root
-ready t g w l z = rw (l, z) (record { links = grown-walkable t g; whole = w })
+ready t g w l z = rw (l, z) (record { links = grown_walkable t g; whole = w })
 
 module _ (cs : List ℕ) (root : Cube) (p : Point) where
   -- ---- the ways through `leaf_of`

@@ -10,7 +10,7 @@ use borrow.Author.Tests.{eq-eqb, ne_eqb, lt-ltb, le-ltb, le-leb, lt-leb}
 use lib.Dec.{ltb}
 use lib.ListN.{length, get_or, set, length-map, get_or-map}
 use lib.Seq.{get_or-set_same, get_or-set_other, ext_get_or}
-use lib.Ieee.{binary64, eq, to_bits}
+use lib.Ieee.{binary64, to_bits}
 use mir.Syntax.{w32}
 use mir.Val.{of_z}
 use Rattle.remy.specs.Action.{valid_of}
@@ -88,24 +88,24 @@ leaf_counts_none nodes i x l h =
 
 -- ---- plain
 module _ (x : Node) where
-  pub plain-marked : to_bits binary64 x.window_multiplier ≡ 0 → of_z w32 x.window_increment ≡ 0
+  pub plain_marked : to_bits binary64 x.window_multiplier ≡ 0 → of_z w32 x.window_increment ≡ 0
       → to_bits binary64 x.intersend_delay.0 ≡ 0 → not x.optimized ≡ plain_of x
   unfolding plain_of
-  plain-marked a b d = rw (eq-eqb _ _ a, eq-eqb _ _ b, eq-eqb _ _ d)
+  plain_marked a b d = rw (eq-eqb _ _ a, eq-eqb _ _ b, eq-eqb _ _ d)
 
-  pub plain-delay : to_bits binary64 x.window_multiplier ≡ 0 → of_z w32 x.window_increment ≡ 0
+  pub plain_delay : to_bits binary64 x.window_multiplier ≡ 0 → of_z w32 x.window_increment ≡ 0
       → (to_bits binary64 x.intersend_delay.0 ≡ 0 → ⊥) → false ≡ plain_of x
   unfolding plain_of
-  plain-delay a b d = rw (eq-eqb _ _ a, eq-eqb _ _ b, ne_eqb _ _ d)
+  plain_delay a b d = rw (eq-eqb _ _ a, eq-eqb _ _ b, ne_eqb _ _ d)
 
-  pub plain-increment : to_bits binary64 x.window_multiplier ≡ 0
+  pub plain_increment : to_bits binary64 x.window_multiplier ≡ 0
       → (of_z w32 x.window_increment ≡ 0 → ⊥) → false ≡ plain_of x
   unfolding plain_of
-  plain-increment a b = rw (eq-eqb _ _ a, ne_eqb _ _ b)
+  plain_increment a b = rw (eq-eqb _ _ a, ne_eqb _ _ b)
 
-  pub plain-multiplier : (to_bits binary64 x.window_multiplier ≡ 0 → ⊥) → false ≡ plain_of x
+  pub plain_multiplier : (to_bits binary64 x.window_multiplier ≡ 0 → ⊥) → false ≡ plain_of x
   unfolding plain_of
-  plain-multiplier a = rw (ne_eqb _ _ a)
+  plain_multiplier a = rw (ne_eqb _ _ a)
 
   -- ---- slot_holds
   pub slot_used : (used : Bool) → used ≡ true → valid_of (action_in x) ≡ slot_holds x used
@@ -118,30 +118,30 @@ module _ (x : Node) where
 
 -- ---- linked
 module _ (cs : List ℕ) (s : ℕ) where
-  pub linked-ones : s ≤ 64 → links_hold cs s ≡ true → all_ones (owners_of cs) s ≡ linked_of cs s
+  pub linked_ones : s ≤ 64 → links_hold cs s ≡ true → all_ones (owners_of cs) s ≡ linked_of cs s
   unfolding linked_of
-  linked-ones l h = rw (le-leb s 64 l, h)
+  linked_ones l h = rw (le-leb s 64 l, h)
 
-  pub linked-loose : s ≤ 64 → links_hold cs s ≡ false → false ≡ linked_of cs s
+  pub linked_loose : s ≤ 64 → links_hold cs s ≡ false → false ≡ linked_of cs s
   unfolding linked_of
-  linked-loose l h = rw (le-leb s 64 l, h)
+  linked_loose l h = rw (le-leb s 64 l, h)
 
-  pub linked-many : 64 < s → false ≡ linked_of cs s
+  pub linked_many : 64 < s → false ≡ linked_of cs s
   unfolding linked_of
-  linked-many l = rw (lt-leb s 64 l)
+  linked_many l = rw (lt-leb s 64 l)
 
 -- ---- grown
 module _ (t : RuleTree) where
-  pub grown-rest : linked_of (children_of t.nodes) t.splits ≡ true → payloads_hold t.nodes t.splits ≡ true
+  pub grown_rest : linked_of (children_of t.nodes) t.splits ≡ true → payloads_hold t.nodes t.splits ≡ true
       → ends_hold t.ends ≡ grown_of t
   unfolding grown_of
-  grown-rest a b = rw (a, b)
+  grown_rest a b = rw (a, b)
 
-  pub grown-payload : linked_of (children_of t.nodes) t.splits ≡ true → payloads_hold t.nodes t.splits ≡ false
+  pub grown_payload : linked_of (children_of t.nodes) t.splits ≡ true → payloads_hold t.nodes t.splits ≡ false
       → false ≡ grown_of t
   unfolding grown_of
-  grown-payload a b = rw (a, b)
+  grown_payload a b = rw (a, b)
 
-  pub grown-loose : linked_of (children_of t.nodes) t.splits ≡ false → false ≡ grown_of t
+  pub grown_loose : linked_of (children_of t.nodes) t.splits ≡ false → false ≡ grown_of t
   unfolding grown_of
-  grown-loose a = rw a
+  grown_loose a = rw a

@@ -19,7 +19,7 @@ use Rattle.rule_tree.proofs.Lists.{all_below_at, all_below_all, get_d_tabulate}
 use Rattle.rule_tree.proofs.LinkWays.{children_at, children_count, slot_used, slot_unused}
 use Rattle.rule_tree.proofs.Owners.{same_or_not, below_or_not, Once, once_of, owner_found, owner_is}
 use Rattle.rule_tree.proofs.Plain.{and_l, and_r, PointFits, ends_admitted_lem, ends_whole}
-use Rattle.rule_tree.proofs.CubeSteps.{Low, parent_of, child-step}
+use Rattle.rule_tree.proofs.CubeSteps.{Low, parent_of, child_step}
 
 -- ---- one link
 pub record Link (s c i : ℕ) : Type 0 where
@@ -73,75 +73,75 @@ held_below cs j n = ⊎_elim (λ (l : j < length cs). l) (λ (g : length cs ≤ 
 
 -- ---- the parts of the test
 module _ (t : RuleTree) (g : grown_of t ≡ true) where
-  pub grown-linked : linked_of (children_of t.nodes) t.splits ≡ true
+  pub grown_linked : linked_of (children_of t.nodes) t.splits ≡ true
   unfolding grown_of
-  grown-linked = and_l (linked_of (children_of t.nodes) t.splits) _ g
+  grown_linked = and_l (linked_of (children_of t.nodes) t.splits) _ g
 
-  grown-rest : payloads_hold t.nodes t.splits && ends_hold t.ends ≡ true
+  grown_rest : payloads_hold t.nodes t.splits && ends_hold t.ends ≡ true
   unfolding grown_of
-  grown-rest = and_r (linked_of (children_of t.nodes) t.splits) _ g
+  grown_rest = and_r (linked_of (children_of t.nodes) t.splits) _ g
 
-  pub grown-payloads : payloads_hold t.nodes t.splits ≡ true
-  grown-payloads = and_l (payloads_hold t.nodes t.splits) _ grown-rest
+  pub grown_payloads : payloads_hold t.nodes t.splits ≡ true
+  grown_payloads = and_l (payloads_hold t.nodes t.splits) _ grown_rest
 
-  pub grown-ends-hold : ends_hold t.ends ≡ true
-  grown-ends-hold = and_r (payloads_hold t.nodes t.splits) _ grown-rest
+  pub grown_ends_hold : ends_hold t.ends ≡ true
+  grown_ends_hold = and_r (payloads_hold t.nodes t.splits) _ grown_rest
 
   -- "At most 64 splits"
-  pub grown-splits : t.splits ≤ 64
+  pub grown_splits : t.splits ≤ 64
   unfolding linked_of
-  grown-splits = leb-true _ _ (and_l (leb t.splits 64) _ grown-linked)
+  grown_splits = leb-true _ _ (and_l (leb t.splits 64) _ grown_linked)
 
-  grown-joined : links_hold (children_of t.nodes) t.splits && all_ones (owners_of (children_of t.nodes)) t.splits ≡ true
+  grown_joined : links_hold (children_of t.nodes) t.splits && all_ones (owners_of (children_of t.nodes)) t.splits ≡ true
   unfolding linked_of
-  grown-joined = and_r (leb t.splits 64) _ grown-linked
+  grown_joined = and_r (leb t.splits 64) _ grown_linked
 
-  pub grown-own-links : links_hold (children_of t.nodes) t.splits ≡ true
-  grown-own-links = and_l (links_hold (children_of t.nodes) t.splits) _ grown-joined
+  pub grown_own_links : links_hold (children_of t.nodes) t.splits ≡ true
+  grown_own_links = and_l (links_hold (children_of t.nodes) t.splits) _ grown_joined
 
-  grown-ones : all_ones (owners_of (children_of t.nodes)) t.splits ≡ true
-  grown-ones = and_r (links_hold (children_of t.nodes) t.splits) _ grown-joined
+  grown_ones : all_ones (owners_of (children_of t.nodes)) t.splits ≡ true
+  grown_ones = and_r (links_hold (children_of t.nodes) t.splits) _ grown_joined
 
   -- ---- links
-  pub grown-links : links_hold (children_of t.nodes) 64 ≡ true
-  grown-links =
+  pub grown_links : links_hold (children_of t.nodes) 64 ≡ true
+  grown_links =
       all_below_all 513 (λ i. link_holds 64 (get_or (children_of t.nodes) i 0) i)
-      (λ i l. link_more t.splits 64 (get_or (children_of t.nodes) i 0) i grown-splits
-      (all_below_at 513 i (λ i. link_holds t.splits (get_or (children_of t.nodes) i 0) i) grown-own-links l))
+      (λ i l. link_more t.splits 64 (get_or (children_of t.nodes) i 0) i grown_splits
+      (all_below_at 513 i (λ i. link_holds t.splits (get_or (children_of t.nodes) i 0) i) grown_own_links l))
 
-  pub grown-walkable : T (links_hold (children_of t.nodes) 64)
-  grown-walkable = subst T (sym grown-links) tt
+  pub grown_walkable : T (links_hold (children_of t.nodes) 64)
+  grown_walkable = subst T (sym grown_links) tt
 
-  pub grown-link : (i : ℕ) → i < 513 → (get_or (children_of t.nodes) i 0 ≡ 0 → ⊥)
+  pub grown_link : (i : ℕ) → i < 513 → (get_or (children_of t.nodes) i 0 ≡ 0 → ⊥)
       → Link t.splits (get_or (children_of t.nodes) i 0) i
-  grown-link i l n =
+  grown_link i l n =
       link_of_lem t.splits (get_or (children_of t.nodes) i 0) i
-      (all_below_at 513 i (λ i. link_holds t.splits (get_or (children_of t.nodes) i 0) i) grown-own-links l) n
+      (all_below_at 513 i (λ i. link_holds t.splits (get_or (children_of t.nodes) i 0) i) grown_own_links l) n
 
   -- ---- owners: split k made one node a parent, which comes before the nodes that it added
-  pub grown-occurs : (k : ℕ) → k < t.splits → occurrences (8 * k + 1) (children_of t.nodes) ≡ 1
-  grown-occurs k l =
-      let s = grown-splits in
+  pub grown_occurs : (k : ℕ) → k < t.splits → occurrences (8 * k + 1) (children_of t.nodes) ≡ 1
+  grown_occurs k l =
+      let s = grown_splits in
       sym (get_d_tabulate 64 k (λ k. occurrences (8 * k + 1) (children_of t.nodes)) 0 (omega arith))
-      ∙ eqb-true _ _ (all_below_at t.splits k (λ k. eqb (get_or (owners_of (children_of t.nodes)) k 0) 1) grown-ones l)
+      ∙ eqb-true _ _ (all_below_at t.splits k (λ k. eqb (get_or (owners_of (children_of t.nodes)) k 0) 1) grown_ones l)
 
-  pub grown-once : (k : ℕ) → k < t.splits → Once (children_of t.nodes) (8 * k + 1)
-  grown-once k l = once_of (8 * k + 1) (children_of t.nodes) (grown-occurs k l)
+  pub grown_once : (k : ℕ) → k < t.splits → Once (children_of t.nodes) (8 * k + 1)
+  grown_once k l = once_of (8 * k + 1) (children_of t.nodes) (grown_occurs k l)
 
   -- the owner of a first child f is the only one
-  pub grown-only : (i j : ℕ) → i < 513 → (get_or (children_of t.nodes) i 0 ≡ 0 → ⊥)
+  pub grown_only : (i j : ℕ) → i < 513 → (get_or (children_of t.nodes) i 0 ≡ 0 → ⊥)
       → get_or (children_of t.nodes) j 0 ≡ get_or (children_of t.nodes) i 0 → j ≡ i
-  grown-only i j l n e =
+  grown_only i j l n e =
       let cs = children_of t.nodes in
       let f = get_or cs i 0 in
-      let k = grown-link i l n in
+      let k = grown_link i l n in
       let q : f ≡ 8 * (f / 8) + 1 = omega (arith, k.first) in
-      let o = grown-once (f / 8) (omega (arith, k.first, k.inside)) in
+      let o = grown_once (f / 8) (omega (arith, k.first, k.inside)) in
       o.only j (held_below cs j (λ z. n (sym e ∙ z))) (e ∙ q) ∙ sym (o.only i (held_below cs i n) q)
 
   -- what cube_at asks of the splits' nodes
-  pub grown-low : Low (split_nodes (children_of t.nodes))
-  grown-low k l =
+  pub grown_low : Low (split_nodes (children_of t.nodes))
+  grown_low k l =
       let cs = children_of t.nodes in
       let e : get_or (split_nodes cs) k 0 ≡ owner_below 513 cs (8 * k + 1) =
       get_d_tabulate 64 k (λ k. owner_below 513 cs (8 * k + 1)) 0 l in
@@ -149,87 +149,87 @@ module _ (t : RuleTree) (g : grown_of t ≡ true) where
       (λ w.
       let a = w.0 in
       let b = w.1 in
-      let h = grown-link (owner_below 513 cs (8 * k + 1)) a (λ z. omega (arith, z)) in
+      let h = grown_link (owner_below 513 cs (8 * k + 1)) a (λ z. omega (arith, z)) in
       omega (arith, h.after))
       (owner_found 513 cs (8 * k + 1))
 
   -- the node that the split of a first child made a parent is its parent
-  pub grown-split : (i : ℕ) → i < 513 → (get_or (children_of t.nodes) i 0 ≡ 0 → ⊥)
+  pub grown_split : (i : ℕ) → i < 513 → (get_or (children_of t.nodes) i 0 ≡ 0 → ⊥)
       → get_or (split_nodes (children_of t.nodes)) (get_or (children_of t.nodes) i 0 / 8) 0 ≡ i
-  grown-split i l n =
+  grown_split i l n =
       let cs = children_of t.nodes in
       let f = get_or cs i 0 in
-      let k = grown-link i l n in
-      let s = grown-splits in
+      let k = grown_link i l n in
+      let s = grown_splits in
       let q : f ≡ 8 * (f / 8) + 1 = omega (arith, k.first) in
       get_d_tabulate 64 (f / 8) (λ k. owner_below 513 cs (8 * k + 1)) 0 (omega (arith, k.first, k.inside))
-      ∙ owner_is 513 cs (8 * (f / 8) + 1) i l q (λ j b e. grown-only i j l n (e ∙ sym q))
+      ∙ owner_is 513 cs (8 * (f / 8) + 1) i l q (λ j b e. grown_only i j l n (e ∙ sym q))
 
-  pub grown-owner : length t.nodes ≡ 513 → (k : ℕ) → k < t.splits → Owner (children_of t.nodes) k
-  grown-owner full k l =
+  pub grown_owner : length t.nodes ≡ 513 → (k : ℕ) → k < t.splits → Owner (children_of t.nodes) k
+  grown_owner full k l =
       let cs = children_of t.nodes in
-      let o = grown-once k l in
+      let o = grown_once k l in
       let b : o.at < 513 = omega (arith, o.below, children_count t.nodes) in
       let n : get_or cs o.at 0 ≡ 0 → ⊥ = (λ z. let e = o.is in omega (arith, z)) in
-      let h = grown-link o.at b n in
+      let h = grown_link o.at b n in
       let q : get_or cs o.at 0 / 8 ≡ k = omega (arith, o.is) in
       record {
         at = o.at;
         low = omega (arith, h.after, o.is);
         is = o.is;
-        only = λ j e. grown-only o.at j b n (e ∙ sym o.is);
-        split = ap (λ (k : ℕ). get_or (split_nodes cs) k 0) (sym q) ∙ grown-split o.at b n;
+        only = λ j e. grown_only o.at j b n (e ∙ sym o.is);
+        split = ap (λ (k : ℕ). get_or (split_nodes cs) k 0) (sym q) ∙ grown_split o.at b n;
       }
 
   -- ---- what the nodes hold
-  pub grown-slot-holds : (i : ℕ) → i < 513 → slot_holds (node_at_of t.nodes i) (ltb i (node_count t.splits)) ≡ true
-  grown-slot-holds i l = all_below_at 513 i (λ i. slot_holds (node_at_of t.nodes i) (ltb i (node_count t.splits))) grown-payloads l
+  pub grown_slot_holds : (i : ℕ) → i < 513 → slot_holds (node_at_of t.nodes i) (ltb i (node_count t.splits)) ≡ true
+  grown_slot_holds i l = all_below_at 513 i (λ i. slot_holds (node_at_of t.nodes i) (ltb i (node_count t.splits))) grown_payloads l
 
-  pub grown-valid : (i : ℕ) → i < node_count t.splits → valid_of (action_in (node_at_of t.nodes i)) ≡ true
-  grown-valid i l =
-      let s = grown-splits in
-      slot_used (node_at_of t.nodes i) (ltb i (node_count t.splits)) (lt-ltb _ _ l) ∙ grown-slot-holds i (omega arith)
+  pub grown_valid : (i : ℕ) → i < node_count t.splits → valid_of (action_in (node_at_of t.nodes i)) ≡ true
+  grown_valid i l =
+      let s = grown_splits in
+      slot_used (node_at_of t.nodes i) (ltb i (node_count t.splits)) (lt-ltb _ _ l) ∙ grown_slot_holds i (omega arith)
 
-  pub grown-unused-leaf : (i : ℕ) → node_count t.splits ≤ i → i < 513 → (node_at_of t.nodes i).children ≡ 0
-  grown-unused-leaf i a l =
+  pub grown_unused_leaf : (i : ℕ) → node_count t.splits ≤ i → i < 513 → (node_at_of t.nodes i).children ≡ 0
+  grown_unused_leaf i a l =
       ⊎_elim (λ (z : (node_at_of t.nodes i).children ≡ 0). z)
       (λ (n : (node_at_of t.nodes i).children ≡ 0 → ⊥).
-      let h = grown-link i l (λ z. n (sym (children_at t.nodes i) ∙ z)) in
+      let h = grown_link i l (λ z. n (sym (children_at t.nodes i) ∙ z)) in
       absurd (omega (arith, h.after, h.inside)))
       (same_or_not (node_at_of t.nodes i).children 0)
 
-  pub grown-unused-plain : (i : ℕ) → node_count t.splits ≤ i → i < 513 → plain_of (node_at_of t.nodes i) ≡ true
-  grown-unused-plain i a l = slot_unused (node_at_of t.nodes i) (ltb i (node_count t.splits)) (le-ltb _ _ a) ∙ grown-slot-holds i l
+  pub grown_unused_plain : (i : ℕ) → node_count t.splits ≤ i → i < 513 → plain_of (node_at_of t.nodes i) ≡ true
+  grown_unused_plain i a l = slot_unused (node_at_of t.nodes i) (ltb i (node_count t.splits)) (le-ltb _ _ a) ∙ grown_slot_holds i l
 
   -- ---- the ends, whose floats fit as those of every value that a program holds
-  pub grown-admitted : ends_admitted t.ends ≡ true
-  grown-admitted = ends_admitted_lem t.ends grown-ends-hold
+  pub grown_admitted : ends_admitted t.ends ≡ true
+  grown_admitted = ends_admitted_lem t.ends grown_ends_hold
 
-  pub grown-whole : PointFits t.ends → Whole (root_of t.ends)
-  grown-whole f = ends_whole t.ends f grown-ends-hold
+  pub grown_whole : PointFits t.ends → Whole (root_of t.ends)
+  grown_whole f = ends_whole t.ends f grown_ends_hold
 
   -- ---- cubes
-  pub grown-family : (i : ℕ) → i < 513 → ((node_at_of t.nodes i).children ≡ 0 → ⊥) → (k : ℕ) → k < 8
+  pub grown_family : (i : ℕ) → i < 513 → ((node_at_of t.nodes i).children ≡ 0 → ⊥) → (k : ℕ) → k < 8
       → (node_at_of t.nodes i).children + k < node_count t.splits
-  grown-family i l n k b =
+  grown_family i l n k b =
       let e = children_at t.nodes i in
-      let h = grown-link i l (λ z. n (sym e ∙ z)) in
+      let h = grown_link i l (λ z. n (sym e ∙ z)) in
       omega (arith, h.first, h.inside)
 
   -- a child's cube is its parent's halved
-  pub grown-child-cube : (i : ℕ) → i < 513 → ((node_at_of t.nodes i).children ≡ 0 → ⊥) → (k : ℕ) → k < 8
+  pub grown_child_cube : (i : ℕ) → i < 513 → ((node_at_of t.nodes i).children ≡ 0 → ⊥) → (k : ℕ) → k < 8
       → cube_of t ((node_at_of t.nodes i).children + k) ≡ child_cube (cube_of t i) k
-  grown-child-cube i l n k b =
+  grown_child_cube i l n k b =
       let cs = children_of t.nodes in
       let ps = split_nodes cs in
       let root = root_of t.ends in
       let e = children_at t.nodes i in
       let f = (node_at_of t.nodes i).children in
-      let h = grown-link i l (λ z. n (sym e ∙ z)) in
-      let s = grown-splits in
+      let h = grown_link i l (λ z. n (sym e ∙ z)) in
+      let s = grown_splits in
       let q : (f + k - 1) / 8 ≡ get_or cs i 0 / 8 = omega (arith, h.first) in
       let r : (f + k - 1) % 8 ≡ k = omega (arith, h.first) in
-      let p : parent_of ps (f + k) ≡ i = ap (λ (k : ℕ). get_or ps k 0) q ∙ grown-split i l (λ z. n (sym e ∙ z)) in
-      child-step ps root grown-low (f + k) (omega (arith, h.first, h.inside)) (λ z. n (omega (arith, z)))
+      let p : parent_of ps (f + k) ≡ i = ap (λ (k : ℕ). get_or ps k 0) q ∙ grown_split i l (λ z. n (sym e ∙ z)) in
+      child_step ps root grown_low (f + k) (omega (arith, h.first, h.inside)) (λ z. n (omega (arith, z)))
       ∙ ap (λ (j : ℕ). child_cube (cube_at (parent_of ps (f + k)) ps root (parent_of ps (f + k))) j) r
       ∙ ap (λ (p : ℕ). child_cube (cube_at p ps root p) k) p

@@ -7,7 +7,6 @@ use Prim.Native.Nat.{ℕ, zero, suc, ◌+◌, ◌<◌, ◌≤◌}
 use native.Mathlib.Nat.{eq-or-lt_of_le}
 use native.Mathlib.Numerals.{add-one}
 use native.Mathlib.Omega.{arith}
-use lib.Dec.{eqb}
 use lib.ListN.{length, get_or, set, take, length-append, length-set, get_or-append}
 use lib.Seq.{get_or-set_same, get_or-set_other, get_or-append_seam, take-suc}
 use Rattle.rule_tree.specs.Lists.{all_below, count_below, occurrences, tabulate, total, fill}

@@ -28,8 +28,8 @@ use Rattle.rule_tree.specs.Change.{with_action}
 use Rattle.rule_tree.specs.Calls.{found_in, lookup_of, tested_in, opened_in, opened_of, tally_of, counted_in}
 use Rattle.rule_tree.proofs.Lists.{total_take, total_take_le}
 use Rattle.rule_tree.proofs.Counting.{counts_accepted}
-use Rattle.rule_tree.proofs.Changing.{action-at, action-other, action-links}
-use Rattle.rule_tree.proofs.Links.{grown-splits, grown-own-links, grown-walkable}
+use Rattle.rule_tree.proofs.Changing.{action_at_lem, action_other, action_links}
+use Rattle.rule_tree.proofs.Links.{grown_splits, grown_own_links, grown_walkable}
 use Rattle.rule_tree.proofs.Walking.{walk_leaf}
 
 -- the answer of `contains` on the root
@@ -43,14 +43,14 @@ module _ (t : RuleTree) (p : Point) (cs : List ℕ) (root : Cube) (g : grown_of 
   boxed = rw q at i
 
   pub walk_ready : Walkable cs root p
-  walk_ready = rw (e, q) (record { links = grown-walkable t g; whole = w; inside = boxed })
+  walk_ready = rw (e, q) (record { links = grown_walkable t g; whole = w; inside = boxed })
 
-  pub way-reached : (r : Reached) → r ≡ walk_of cs root p → (r ≡ walk_of (children_of t.nodes) (root_of t.ends) p) × (r.node < node_count t.splits)
-  way-reached r h =
+  pub way_reached : (r : Reached) → r ≡ walk_of cs root p → (r ≡ walk_of (children_of t.nodes) (root_of t.ends) p) × (r.node < node_count t.splits)
+  way_reached r h =
       let k : r ≡ walk_of (children_of t.nodes) (root_of t.ends) p = rw (e, q) at h in (
         k,
         subst (λ (x : Reached). x.node < node_count t.splits) (sym k)
-            (walk_leaf (children_of t.nodes) (root_of t.ends) p t.splits (grown-splits t g) (grown-own-links t g) w boxed).node,
+            (walk_leaf (children_of t.nodes) (root_of t.ends) p t.splits (grown_splits t g) (grown_own_links t g) w boxed).node,
       )
 
 -- the leaf of a walk
@@ -58,7 +58,7 @@ pub reached_leaf_lem : (t : RuleTree) (p : Point) (r : Reached) → r ≡ walk_o
 reached_leaf_lem t p r e = ap (λ (x : Reached). x.node) e
 
 pub leaf_slot : (t : RuleTree) → grown_of t ≡ true → (n : ℕ) → n < node_count t.splits → n < slots
-leaf_slot t g n l = let a = grown-splits t g in omega arith
+leaf_slot t g n l = let a = grown_splits t g in omega arith
 
 -- ---- what is found
 look_found : (t : RuleTree) (p : Point) (r : Reached) → contains_of (root_of t.ends) p ≡ true → r ≡ walk_of (children_of t.nodes) (root_of t.ends) p
@@ -102,18 +102,18 @@ opened_found t p = go (grown_of t)
 
 -- ---- looked_replaced
 module _ (t : RuleTree) (leaf : ℕ) (a : Action) (p : Point) (r : Reached) (h : contains_of (root_of t.ends) p ≡ true) (e : r ≡ walk_of (children_of t.nodes) (root_of t.ends) p) where
-  replaced-at : Found (action_in (node_at_of (with_action t leaf a).nodes r.node)) ≡ found_in (with_action t leaf a) p
-  replaced-at = look_found (with_action t leaf a) p r h (rw (action-links t leaf a) e)
+  replaced_at : Found (action_in (node_at_of (with_action t leaf a).nodes r.node)) ≡ found_in (with_action t leaf a) p
+  replaced_at = look_found (with_action t leaf a) p r h (rw (action_links t leaf a) e)
 
-  pub replaced-same : leaf < length t.nodes → r.node ≡ leaf → Found a ≡ found_in (with_action t leaf a) p
-  replaced-same l q =
-      ap (λ (y : Node). Found (action_in y)) (sym (action-at t leaf a l))
+  pub replaced_same : leaf < length t.nodes → r.node ≡ leaf → Found a ≡ found_in (with_action t leaf a) p
+  replaced_same l q =
+      ap (λ (y : Node). Found (action_in y)) (sym (action_at_lem t leaf a l))
       ∙ ap (λ (i : ℕ). Found (action_in (node_at_of (with_action t leaf a).nodes i))) (sym q)
-      ∙ replaced-at
+      ∙ replaced_at
 
-  pub replaced-other : (r.node ≡ leaf → ⊥) → Found (action_in (node_at_of t.nodes r.node)) ≡ found_in (with_action t leaf a) p
-  replaced-other q =
-      ap (λ (y : Node). Found (action_in y)) (sym (action-other t leaf a r.node q)) ∙ replaced-at
+  pub replaced_other : (r.node ≡ leaf → ⊥) → Found (action_in (node_at_of t.nodes r.node)) ≡ found_in (with_action t leaf a) p
+  replaced_other q =
+      ap (λ (y : Node). Found (action_in y)) (sym (action_other t leaf a r.node q)) ∙ replaced_at
 
 pub replaced_nothing : (t : RuleTree) (leaf : ℕ) (a : Action) (p : Point) (root : Cube) (b : Bool) → root ≡ root_of t.ends → b ≡ contains_of root p → b ≡ false
     → Nothing ≡ found_in (with_action t leaf a) p
@@ -125,21 +125,21 @@ pub count_small : (xs : List ℕ) (i : ℕ) → i < length xs → capped_total x
 count_small xs i l c = let a = total_take xs i l in let b = total_take_le xs (i + 1) in omega arith
 
 module _ (t : RuleTree) (xs : List ℕ) (p : Point) (g : grown_of t ≡ true) (c : counts_hold t xs ≡ true) where
-  pub tally-nothing : contains_of (root_of t.ends) p ≡ false → tallied.Nothing ≡ tally_of t xs p
+  pub tally_nothing : contains_of (root_of t.ends) p ≡ false → tallied.Nothing ≡ tally_of t xs p
   unfolding tally_of
-  tally-nothing h = rw (g, c, h)
+  tally_nothing h = rw (g, c, h)
 
-  pub tally-full : contains_of (root_of t.ends) p ≡ true → (n : ℕ) → n ≡ capped_total xs → limit ≤ n → tallied.Refused 23 ≡ tally_of t xs p
+  pub tally_full : contains_of (root_of t.ends) p ≡ true → (n : ℕ) → n ≡ capped_total xs → limit ≤ n → tallied.Refused 23 ≡ tally_of t xs p
   unfolding tally_of
-  tally-full h n e m =
+  tally_full h n e m =
       let k = (counts_accepted t xs c).total_held in
       let f : total xs ≡ limit = omega arith in
       rw (g, c, h, eq-eqb (total xs) limit f)
 
-  pub tally-counted : contains_of (root_of t.ends) p ≡ true → (n : ℕ) → n ≡ capped_total xs → n < limit
+  pub tally_counted : contains_of (root_of t.ends) p ≡ true → (n : ℕ) → n ≡ capped_total xs → n < limit
       → (r : ℕ) → r ≡ leaf_of t p → tallied.Counted r ≡ tally_of t xs p
   unfolding tally_of
-  tally-counted h n e m r q = rw (g, c, h, ne_eqb (total xs) limit (λ f. absurd (omega (arith, f))), q)
+  tally_counted h n e m r q = rw (g, c, h, ne_eqb (total xs) limit (λ f. absurd (omega (arith, f))), q)
 
 pub counted_leaf : (xs : List ℕ) (r : Tallied) (i : ℕ) → tallied.Counted i ≡ r → set xs i (get_or xs i 0 + 1) ≡ counted_in xs r
 unfolding counted_in

@@ -36,9 +36,9 @@ Buckets n g out i = (length out ≡ n) × ((k : ℕ) → k < n → get_or out k 
 
 module _ (n : ℕ) (g : ℕ → ℕ → ℕ) (cs out next : List ℕ) (i : ℕ) (held : Buckets n g out i)
     (miss : (f : ℕ) → (get_or cs i 0 ≡ f → ⊥) → g (i + 1) f ≡ g i f) where
-  pub bucket-hit : (v : ℕ) → next ≡ set out (get_or cs i 0 / 8) v → get_or cs i 0 % 8 ≡ 1 → get_or cs i 0 / 8 < n
+  pub bucket_hit : (v : ℕ) → next ≡ set out (get_or cs i 0 / 8) v → get_or cs i 0 % 8 ≡ 1 → get_or cs i 0 / 8 < n
       → v ≡ g (i + 1) (get_or cs i 0) → Buckets n g next (i + 1)
-  bucket-hit v same m l e = subst (λ (o : List ℕ). Buckets n g o (i + 1)) (sym same) (length-set out _ v ∙ held.0, at)
+  bucket_hit v same m l e = subst (λ (o : List ℕ). Buckets n g o (i + 1)) (sym same) (length-set out _ v ∙ held.0, at)
     where
       at : (k : ℕ) → k < n → get_or (set out (get_or cs i 0 / 8) v) k 0 ≡ g (i + 1) (8 * k + 1)
       at k b =
@@ -52,16 +52,16 @@ module _ (n : ℕ) (g : ℕ → ℕ → ℕ) (cs out next : List ℕ) (i : ℕ) 
           ∙ sym (miss (8 * k + 1) (λ q. p (omega (arith, q)))))
           (same_or_not k (get_or cs i 0 / 8))
 
-  bucket-kept : next ≡ out → ((k : ℕ) → k < n → get_or cs i 0 ≡ 8 * k + 1 → ⊥) → Buckets n g next (i + 1)
-  bucket-kept same none =
+  bucket_kept : next ≡ out → ((k : ℕ) → k < n → get_or cs i 0 ≡ 8 * k + 1 → ⊥) → Buckets n g next (i + 1)
+  bucket_kept same none =
       subst (λ (o : List ℕ). Buckets n g o (i + 1)) (sym same)
       (held.0, λ k b. held.1 k b ∙ sym (miss (8 * k + 1) (none k b)))
 
-  pub bucket-far : next ≡ out → n ≤ get_or cs i 0 / 8 → Buckets n g next (i + 1)
-  bucket-far same l = bucket-kept same (λ k b q. omega (arith, q))
+  pub bucket_far : next ≡ out → n ≤ get_or cs i 0 / 8 → Buckets n g next (i + 1)
+  bucket_far same l = bucket_kept same (λ k b q. omega (arith, q))
 
-  pub bucket-odd : next ≡ out → (get_or cs i 0 % 8 ≡ 1 → ⊥) → Buckets n g next (i + 1)
-  bucket-odd same m = bucket-kept same (λ k b q. m (omega (arith, q)))
+  pub bucket_odd : next ≡ out → (get_or cs i 0 % 8 ≡ 1 → ⊥) → Buckets n g next (i + 1)
+  bucket_odd same m = bucket_kept same (λ k b q. m (omega (arith, q)))
 
 pub buckets_all : (n : ℕ) (g : ℕ → ℕ → ℕ) (h : ℕ → ℕ) (out : List ℕ) (i : ℕ) → Buckets n g out i
     → ((f : ℕ) → g i f ≡ h f) → out ≡ tabulate n (λ k. h (8 * k + 1))
@@ -129,15 +129,15 @@ abbrev pub Split : List ℕ → List ℕ → ℕ → Type 0
 Split cs out i = Buckets 64 (λ n f. owner_below n cs f) out i
 
 module _ (cs out next : List ℕ) (i : ℕ) (held : Split cs out i) where
-  pub split-hit : next ≡ set out (get_or cs i 0 / 8) i → get_or cs i 0 % 8 ≡ 1 → get_or cs i 0 / 8 < 64 → Split cs next (i + 1)
-  split-hit same m l =
-      bucket-hit 64 (λ n f. owner_below n cs f) cs out next i held (owner_miss cs i) i same m l (sym (owner_hit cs i (get_or cs i 0) refl))
+  pub split_hit : next ≡ set out (get_or cs i 0 / 8) i → get_or cs i 0 % 8 ≡ 1 → get_or cs i 0 / 8 < 64 → Split cs next (i + 1)
+  split_hit same m l =
+      bucket_hit 64 (λ n f. owner_below n cs f) cs out next i held (owner_miss cs i) i same m l (sym (owner_hit cs i (get_or cs i 0) refl))
 
-  pub split-far : next ≡ out → 64 ≤ get_or cs i 0 / 8 → Split cs next (i + 1)
-  split-far = bucket-far 64 (λ n f. owner_below n cs f) cs out next i held (owner_miss cs i)
+  pub split_far : next ≡ out → 64 ≤ get_or cs i 0 / 8 → Split cs next (i + 1)
+  split_far = bucket_far 64 (λ n f. owner_below n cs f) cs out next i held (owner_miss cs i)
 
-  pub split-odd : next ≡ out → (get_or cs i 0 % 8 ≡ 1 → ⊥) → Split cs next (i + 1)
-  split-odd = bucket-odd 64 (λ n f. owner_below n cs f) cs out next i held (owner_miss cs i)
+  pub split_odd : next ≡ out → (get_or cs i 0 % 8 ≡ 1 → ⊥) → Split cs next (i + 1)
+  split_odd = bucket_odd 64 (λ n f. owner_below n cs f) cs out next i held (owner_miss cs i)
 
 pub split_all : (cs out : List ℕ) (i : ℕ) → i ≤ 513 → 513 ≤ i → Split cs out i → out ≡ split_nodes cs
 split_all cs out i a b h =
@@ -149,20 +149,20 @@ abbrev pub Owned : List ℕ → List ℕ → ℕ → Type 0
 Owned cs out i = Buckets 64 (λ n f. occurrences f (take n cs)) out i
 
 module _ (cs out : List ℕ) (i : ℕ) (held : Owned cs out i) (l : i < length cs) where
-  pub owned-hit : (next : List ℕ) → next ≡ set out (get_or cs i 0 / 8) (get_or out (get_or cs i 0 / 8) 0 + 1) → get_or cs i 0 % 8 ≡ 1
+  pub owned_hit : (next : List ℕ) → next ≡ set out (get_or cs i 0 / 8) (get_or out (get_or cs i 0 / 8) 0 + 1) → get_or cs i 0 % 8 ≡ 1
       → get_or cs i 0 / 8 < 64 → Owned cs next (i + 1)
-  owned-hit next same m b =
+  owned_hit next same m b =
       let e : get_or cs i 0 ≡ 8 * (get_or cs i 0 / 8) + 1 = omega arith in
-      bucket-hit 64 (λ n f. occurrences f (take n cs)) cs out next i held (λ f. seen_miss cs i f l)
+      bucket_hit 64 (λ n f. occurrences f (take n cs)) cs out next i held (λ f. seen_miss cs i f l)
       (get_or out (get_or cs i 0 / 8) 0 + 1) same m b
       (ap (λ (x : ℕ). x + 1) (held.1 (get_or cs i 0 / 8) b ∙ ap (λ (f : ℕ). occurrences f (take i cs)) (sym e))
       ∙ sym (seen_hit cs i (get_or cs i 0) l refl))
 
-  pub owned-far : (next : List ℕ) → next ≡ out → 64 ≤ get_or cs i 0 / 8 → Owned cs next (i + 1)
-  owned-far next = bucket-far 64 (λ n f. occurrences f (take n cs)) cs out next i held (λ f. seen_miss cs i f l)
+  pub owned_far : (next : List ℕ) → next ≡ out → 64 ≤ get_or cs i 0 / 8 → Owned cs next (i + 1)
+  owned_far next = bucket_far 64 (λ n f. occurrences f (take n cs)) cs out next i held (λ f. seen_miss cs i f l)
 
-  pub owned-odd : (next : List ℕ) → next ≡ out → (get_or cs i 0 % 8 ≡ 1 → ⊥) → Owned cs next (i + 1)
-  owned-odd next = bucket-odd 64 (λ n f. occurrences f (take n cs)) cs out next i held (λ f. seen_miss cs i f l)
+  pub owned_odd : (next : List ℕ) → next ≡ out → (get_or cs i 0 % 8 ≡ 1 → ⊥) → Owned cs next (i + 1)
+  owned_odd next = bucket_odd 64 (λ n f. occurrences f (take n cs)) cs out next i held (λ f. seen_miss cs i f l)
 
 pub owned_le : (cs out : List ℕ) (i k : ℕ) → Owned cs out i → k < 64 → get_or out k 0 ≤ i
 owned_le cs out i k h b = let e = h.1 k b in omega (arith, seen_le cs i (8 * k + 1))

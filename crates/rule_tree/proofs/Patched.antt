@@ -30,21 +30,21 @@ place f p i l =
     (below_or_not i f)
 
 module _ (ns : List Node) (p : ℕ) (x : Node) (f : ℕ) (y : Node) where
-  pub patched-count : length (patched ns p x f y) ≡ length ns
-  patched-count = length_fill (set ns p x) f 8 y ∙ length-set ns p x
+  pub patched_count : length (patched ns p x f y) ≡ length ns
+  patched_count = length_fill (set ns p x) f 8 y ∙ length-set ns p x
 
-  pub patched-new : (i : ℕ) → f + 8 ≤ length ns → f ≤ i → i < f + 8 → node_at_of (patched ns p x f y) i ≡ y
-  patched-new i l a b =
+  pub patched_new : (i : ℕ) → f + 8 ≤ length ns → f ≤ i → i < f + 8 → node_at_of (patched ns p x f y) i ≡ y
+  patched_new i l a b =
       let e : f + (i - f) ≡ i = omega arith in
       let c = length-set ns p x in
       ap (λ (j : ℕ). node_at_of (patched ns p x f y) j) (sym e) ∙ get_d_fill (set ns p x) f 8 y no_node (i - f) (omega arith) (omega arith)
 
-  patched-away : (i : ℕ) → (i < f) ⊎ (f + 8 ≤ i) → node_at_of (patched ns p x f y) i ≡ node_at_of (set ns p x) i
-  patched-away i (inl a) = get_d_fill_other (set ns p x) f 8 y no_node i (λ k l z. omega (arith, z))
-  patched-away i (inr a) = get_d_fill_other (set ns p x) f 8 y no_node i (λ k l z. omega (arith, z))
+  patched_away : (i : ℕ) → (i < f) ⊎ (f + 8 ≤ i) → node_at_of (patched ns p x f y) i ≡ node_at_of (set ns p x) i
+  patched_away i (inl a) = get_d_fill_other (set ns p x) f 8 y no_node i (λ k l z. omega (arith, z))
+  patched_away i (inr a) = get_d_fill_other (set ns p x) f 8 y no_node i (λ k l z. omega (arith, z))
 
-  pub patched-here : p < f → p < length ns → node_at_of (patched ns p x f y) p ≡ x
-  patched-here a l = patched-away p (inl a) ∙ get_or-set_same ns p x no_node l
+  pub patched_here : p < f → p < length ns → node_at_of (patched ns p x f y) p ≡ x
+  patched_here a l = patched_away p (inl a) ∙ get_or-set_same ns p x no_node l
 
   pub patched_other : (i : ℕ) → (i ≡ p → ⊥) → (i < f) ⊎ (f + 8 ≤ i) → node_at_of (patched ns p x f y) i ≡ node_at_of ns i
-  patched_other i n a = patched-away i a ∙ get_or-set_other ns p i x no_node n
+  patched_other i n a = patched_away i a ∙ get_or-set_other ns p i x no_node n

@@ -1,8 +1,7 @@
 -- What the tests of bits and floats say of a value that fits its type: a plain node holds the action (+0, 0, +0), and ends that hold
 -- make a box. Assumes nothing.
-use mathlib.Core.Path.{◌≡◌, refl, sym, ap, ◌∙◌}
-use mathlib.Core.Bool.{Bool, true, false, not, ◌&&◌}
-use Prim.Native.Nat.{ℕ}
+use mathlib.Core.Path.{◌≡◌, sym, ap, ◌∙◌}
+use mathlib.Core.Bool.{true, false, not, ◌&&◌}
 use borrow.Author.Tests.{eqb-true, not-true}
 use lib.Dec.{T, eqb}
 use lib.IntN.{ℤ, pos}
@@ -41,26 +40,26 @@ zero_int : (z : ℤ) → SFits w32 z → of_z w32 z ≡ 0 → z ≡ pos 0
 zero_int z h e = sym (to_z-of_z w32 z h) ∙ ap (to_z w32) e
 
 module _ (x : Node) (h : plain_of x ≡ true) where
-  plain-tail : eqb (of_z w32 x.window_increment) 0
+  plain_tail : eqb (of_z w32 x.window_increment) 0
       && (eqb (to_bits binary64 x.intersend_delay.0) 0 && not x.optimized) ≡ true
   unfolding plain_of
-  plain-tail = and_r (eqb (to_bits binary64 x.window_multiplier) 0) _ h
+  plain_tail = and_r (eqb (to_bits binary64 x.window_multiplier) 0) _ h
 
-  plain-head : eqb (to_bits binary64 x.window_multiplier) 0 ≡ true
+  plain_head : eqb (to_bits binary64 x.window_multiplier) 0 ≡ true
   unfolding plain_of
-  plain-head = and_l (eqb (to_bits binary64 x.window_multiplier) 0) _ h
+  plain_head = and_l (eqb (to_bits binary64 x.window_multiplier) 0) _ h
 
   plain_end : eqb (to_bits binary64 x.intersend_delay.0) 0 && not x.optimized ≡ true
-  plain_end = and_r (eqb (of_z w32 x.window_increment) 0) _ plain-tail
+  plain_end = and_r (eqb (of_z w32 x.window_increment) 0) _ plain_tail
 
-  pub plain-unmarked : x.optimized ≡ false
-  plain-unmarked = not-true x.optimized (and_r (eqb (to_bits binary64 x.intersend_delay.0) 0) _ plain_end)
+  pub plain_unmarked : x.optimized ≡ false
+  plain_unmarked = not-true x.optimized (and_r (eqb (to_bits binary64 x.intersend_delay.0) 0) _ plain_end)
 
-  pub plain-action : ActionFits (action_in x) → action_in x ≡ no_action
-  plain-action f =
-      let m = zero_bits x.window_multiplier f.multiplier (eqb-true _ _ plain-head) in
+  pub plain_action : ActionFits (action_in x) → action_in x ≡ no_action
+  plain_action f =
+      let m = zero_bits x.window_multiplier f.multiplier (eqb-true _ _ plain_head) in
       let i = zero_int x.window_increment f.increment
-      (eqb-true _ _ (and_l (eqb (of_z w32 x.window_increment) 0) _ plain-tail)) in
+      (eqb-true _ _ (and_l (eqb (of_z w32 x.window_increment) 0) _ plain_tail)) in
       let d = zero_bits x.intersend_delay.0 f.delay
       (eqb-true _ _ (and_l (eqb (to_bits binary64 x.intersend_delay.0) 0) _ plain_end)) in
       rebuilt (action_in x) _ _ _ m i d

@@ -15,7 +15,7 @@ use Rattle.remy.specs.declared.point.Point.{Point}
 use Rattle.remy.specs.declared.cube.Cube.{Cube}
 use Rattle.remy.specs.declared.cube.Child.{Child}
 use Rattle.remy.specs.Cube.{contains_of, child_cube, place_of_point, toward_of, Whole}
-use Rattle.remy.proofs.Partition.{first_child_lem, place_below, place-holds, whole-child}
+use Rattle.remy.proofs.Partition.{first_child_lem, place_below, place_holds, whole_child}
 use Rattle.rule_tree.specs.declared.inner.walk.Reached.{Reached}
 use Rattle.rule_tree.specs.Lists.{occurrences}
 use Rattle.rule_tree.specs.Nodes.{node_count}
@@ -46,7 +46,7 @@ first_from_lem (suc left) k m c p l h no_one y =
 
 -- the walk by three comparisons finds the child that a search in order finds
 pub first_is_place : (c : Cube) → Whole c → (p : Point) → contains_of c p ≡ true → first_child c p ≡ place_of_point c p
-first_is_place c w p h = first_from_lem 8 0 (place_of_point c p) c p (omega arith) (place_below c p) (first_child_lem c w p) (place-holds c w p h)
+first_is_place c w p h = first_from_lem 8 0 (place_of_point c p) c p (omega arith) (place_below c p) (first_child_lem c w p) (place_holds c w p h)
 
 -- ---- links
 pub links_parent : (cs : List ℕ) (s i : ℕ) → links_hold cs s ≡ true → i < 513 → (get_or cs i 0 ≡ 0 → ⊥) → Link s (get_or cs i 0) i
@@ -104,9 +104,9 @@ module _ (cs : List ℕ) (root : Cube) (p : Point) (cube : Cube) (i tested : ℕ
       ∙ ap (tested_more tested) (sym (descend_leaf o.fuel cs i cube p h))
       ∙ o.same
 
-  to-child : (s : ℕ) → s ≤ 64 → Link s (get_or cs i 0) i → (d : ℕ) → o.fuel ≡ suc d
+  to_child : (s : ℕ) → s ≤ 64 → Link s (get_or cs i 0) i → (d : ℕ) → o.fuel ≡ suc d
       → On cs root p (child_cube cube (place_of_point cube p)) (get_or cs i 0 + place_of_point cube p) (tested + 1 + place_of_point cube p)
-  to-child s l h d e =
+  to_child s l h d e =
       let c = get_or cs i 0 in
       let k = place_of_point cube p in
       let b : k < 8 = place_below cube p in
@@ -115,8 +115,8 @@ module _ (cs : List ℕ) (root : Cube) (p : Point) (cube : Cube) (i tested : ℕ
         fuel = d;
         enough = let g = h.after in let f = o.enough in omega arith;
         below = let g = eight_inside s c i k h b in omega arith;
-        whole = whole-child cube o.whole k;
-        inside = place-holds cube o.whole p o.inside;
+        whole = whole_child cube o.whole k;
+        inside = place_holds cube o.whole p o.inside;
         few = let g = h.after in let f = o.few in omega arith;
         same =
             sym (tested_more_twice tested (suc k) (tested + 1 + k) (descend d cs (c + k) (child_cube cube k) p) (omega arith))
@@ -130,7 +130,7 @@ module _ (cs : List ℕ) (root : Cube) (p : Point) (cube : Cube) (i tested : ℕ
     where
       go : (f : ℕ) → o.fuel ≡ f → On cs root p (child_cube cube (place_of_point cube p)) (get_or cs i 0 + place_of_point cube p) (tested + 1 + place_of_point cube p)
       go zero e = absurd (let a = o.enough in let b = o.below in omega arith)
-      go (suc d) e = to-child s l h d e
+      go (suc d) e = to_child s l h d e
 
 -- one turn of the loop: node c + r.number is the next on the way, and it comes after i
 pub record Turned (cs : List ℕ) (root : Cube) (p : Point) (i tested c : ℕ) (r : Child) : Type 0 where
@@ -170,21 +170,21 @@ module _
     (cs : List ℕ) (root : Cube) (p : Point) (s : ℕ) (few : s ≤ 64) (links : links_hold cs s ≡ true) (P : Cube → ℕ → Type 0)
     (more : (cube : Cube) (i : ℕ) → i < 513 → Link s (get_or cs i 0) i → Whole cube → contains_of cube p ≡ true → P cube i → P (child_cube cube (place_of_point cube p)) (get_or cs i 0 + place_of_point cube p))
   where
-    descent-from : (n : ℕ) (cube : Cube) (i tested : ℕ) → 513 ≤ n + i → On cs root p cube i tested → P cube i → Reaching cs root p P
-    descent-from zero cube i tested h o a = absurd (let b = o.below in omega arith)
-    descent-from (suc n) cube i tested h o a =
+    descent_from : (n : ℕ) (cube : Cube) (i tested : ℕ) → 513 ≤ n + i → On cs root p cube i tested → P cube i → Reaching cs root p P
+    descent_from zero cube i tested h o a = absurd (let b = o.below in omega arith)
+    descent_from (suc n) cube i tested h o a =
         ⊎_elim
         (λ (e : get_or cs i 0 ≡ 0). record { cube = cube; node = i; tested = tested; on = o; leaf = e; kept = a })
         (λ (e : get_or cs i 0 ≡ 0 → ⊥).
         let q = links_parent cs s i links o.below e in
-        descent-from n (child_cube cube (place_of_point cube p)) (get_or cs i 0 + place_of_point cube p) (tested + 1 + place_of_point cube p)
+        descent_from n (child_cube cube (place_of_point cube p)) (get_or cs i 0 + place_of_point cube p) (tested + 1 + place_of_point cube p)
         (let g = q.after in omega arith)
         (step cs root p cube i tested o s few q)
         (more cube i o.below q o.whole o.inside a))
         (zero_or_not (get_or cs i 0))
 
     pub descent : Whole root → contains_of root p ≡ true → P root 0 → Reaching cs root p P
-    descent w h a = descent-from 513 root 0 1 (omega arith) (at_root cs root p w h) a
+    descent w h a = descent_from 513 root 0 1 (omega arith) (at_root cs root p w h) a
 
 -- the leaf that a walk reaches, among the nodes of s splits
 pub record Leaf (cs : List ℕ) (s : ℕ) (r : Reached) : Type 0 where
@@ -203,21 +203,21 @@ walk_leaf cs root p s l h w i =
 
 -- ---- a list of links that was tested
 module _ (cs : List ℕ) (s : ℕ) (h : linked_of cs s ≡ true) where
-  linked-parts : (leb s 64 ≡ true) × (links_hold cs s && all_ones (owners_of cs) s ≡ true)
+  linked_parts : (leb s 64 ≡ true) × (links_hold cs s && all_ones (owners_of cs) s ≡ true)
   unfolding linked_of
-  linked-parts = (and_l (leb s 64) _ h, and_r (leb s 64) _ h)
+  linked_parts = (and_l (leb s 64) _ h, and_r (leb s 64) _ h)
 
-  pub linked-few : s ≤ 64
-  linked-few = leb-true s 64 linked-parts.0
+  pub linked_few : s ≤ 64
+  linked_few = leb-true s 64 linked_parts.0
 
-  pub linked-links : links_hold cs s ≡ true
-  linked-links = and_l (links_hold cs s) _ linked-parts.1
+  pub linked_links : links_hold cs s ≡ true
+  linked_links = and_l (links_hold cs s) _ linked_parts.1
 
   -- one node has each split's eight nodes for children
-  pub linked-owners : (k : ℕ) → k < s → occurrences (8 * k + 1) cs ≡ 1
-  linked-owners k l =
-      let f : s ≤ 64 = linked-few in
-      let o = and_r (links_hold cs s) (all_ones (owners_of cs) s) linked-parts.1 in
+  pub linked_owners : (k : ℕ) → k < s → occurrences (8 * k + 1) cs ≡ 1
+  linked_owners k l =
+      let f : s ≤ 64 = linked_few in
+      let o = and_r (links_hold cs s) (all_ones (owners_of cs) s) linked_parts.1 in
       sym (get_d_tabulate 64 k (λ j. occurrences (8 * j + 1) cs) 0 (omega arith))
       ∙ eqb-true (get_or (owners_of cs) k 0) 1 (all_below_at s k (λ j. eqb (get_or (owners_of cs) j 0) 1) o l)
 

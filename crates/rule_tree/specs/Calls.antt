@@ -1,5 +1,5 @@
 -- What each public call on a tree answers, refusals first and in 01's order.
-use Rattle.std.specs.Prelude.{Bool, true, false, not, ◌&&◌, cond, List, [], ◌∷◌, ℕ, suc, ◌+◌, set, get_or, length, eqb, ltb}
+use Rattle.std.specs.Prelude.{Bool, not, ◌&&◌, cond, List, [], ◌∷◌, ℕ, ◌+◌, set, get_or, length, eqb, ltb}
 use Rattle.refusal.specs.Numbers.{bad_counts, bad_settings, full_tally, full_tree, no_leaf, no_split, not_admitted, not_grown}
 use Rattle.refusal.specs.Guards.{Test, test, guarded}
 use Rattle.remy.specs.declared.action.Action.{Action}

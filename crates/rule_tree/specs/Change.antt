@@ -1,5 +1,5 @@
 -- What changes a tree: a new one, another action, a mark, marks cleared, a split, the newest split taken back.
-use Rattle.std.specs.Prelude.{Bool, true, false, cond, List, map, ℕ, ◌+◌, ◌-◌, ◌*◌, set, replicate, eqb}
+use Rattle.std.specs.Prelude.{true, false, cond, List, map, ℕ, ◌+◌, ◌-◌, ◌*◌, set, replicate, eqb}
 use Rattle.remy.specs.declared.action.Action.{Action}
 use Rattle.remy.specs.declared.point.Point.{Point}
 use Rattle.rule_tree.specs.declared.Node.{Node}

@@ -1,5 +1,5 @@
 -- 01, "Equality": "two nodes are equal when their cubes are and their children are pairwise equal, leaves by cube and action; marks don't count".
-use Rattle.std.specs.Prelude.{◌≡◌, Bool, true, false, ◌&&◌, cond, List, ℕ, zero, suc, ◌+◌, ◌*◌, ◌<◌, eqb, get_or, Float}
+use Rattle.std.specs.Prelude.{◌≡◌, Bool, false, ◌&&◌, cond, List, ℕ, zero, suc, ◌+◌, ◌*◌, ◌<◌, eqb, get_or, Float}
 use Rattle.std.specs.Float.{nan}
 use Rattle.std.specs.Float.Ieee.{eq, to_signed}
 use Rattle.std.specs.Int.{w32}

@@ -1,11 +1,10 @@
 -- 01, "rule_tree.rs": nodes, leaves and parents.
-use Rattle.std.specs.Prelude.{Bool, true, false, not, ◌&&◌, List, map, ℕ, ◌+◌, ◌*◌, get_or, pos, eqb}
+use Rattle.std.specs.Prelude.{Bool, false, List, map, ℕ, ◌+◌, ◌*◌, get_or, pos, eqb}
 use Rattle.std.specs.Float.{nan}
 use Rattle.remy.specs.declared.action.Action.{Action}
 use Rattle.remy.specs.Action.{action_of}
 use Rattle.remy.specs.Cube.{zero}
 use Rattle.rule_tree.specs.declared.Node.{Node}
-use Rattle.rule_tree.specs.declared.RuleTree.{RuleTree}
 
 -- the action of a node
 abbrev pub action_in : Node → Action

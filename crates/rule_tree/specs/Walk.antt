@@ -1,5 +1,5 @@
 -- 01, "Lookup is RuleTree::action": from the root, at each parent the first child whose cube contains the point, down to a leaf.
-use Rattle.std.specs.Prelude.{◌≡◌, Bool, true, false, cond, List, ℕ, zero, suc, ◌+◌, get_or, T, eqb}
+use Rattle.std.specs.Prelude.{◌≡◌, true, cond, List, ℕ, zero, suc, ◌+◌, get_or, T, eqb}
 use Rattle.remy.specs.declared.point.Point.{Point}
 use Rattle.remy.specs.declared.cube.Cube.{Cube}
 use Rattle.remy.specs.Cube.{contains_of, child_cube, root_of, Whole}

@@ -1,4 +1,6 @@
 // The rule tree: boxes of a sender's memory, with one action a leaf. Every public call tests the tree first.
+#![tactic(auto)]
+
 ghost use Rattle.std.specs.Prelude.{◌≡◌, false, true};
 ghost use Rattle.rule_tree.specs.Nodes.{action_in, node_holding};
 ghost use Rattle.rule_tree.specs.Grown.{grown_of};
@@ -25,7 +27,7 @@ pub const MOST_COUNTED: u64 = 1 << 53;
 
 // A node: a leaf where children is 0, else a parent whose first child has that number.
 // The fields of its action stand side by side with them, the widest first, so that a node takes 24 bytes.
-#[derive(Drop)]
+#[derive(Clone, Copy)]
 pub struct Node {
     pub window_multiplier: f64,
     pub intersend_delay: TimeSpan,
@@ -60,7 +62,7 @@ impl Node {
     }
 }
 
-#[derive(Drop)]
+#[derive(Clone, Copy)]
 pub struct RuleTree {
     pub nodes: [Node; NODES],
     pub splits: u16,
@@ -68,13 +70,13 @@ pub struct RuleTree {
 }
 
 // A tree after a call, or the tree that came and the refusal's number.
-#[derive(Drop)]
+#[derive(Clone, Copy)]
 pub struct Changed {
     pub refused: u32,
     pub tree: RuleTree,
 }
 
-#[derive(Drop)]
+#[derive(Clone, Copy)]
 pub enum Looked {
     Found(Action),
     Nothing,
@@ -82,46 +84,46 @@ pub enum Looked {
 }
 
 // What a lookup finds, and the number of cubes that it tested.
-#[derive(Drop)]
+#[derive(Clone, Copy)]
 pub struct Lookup {
     pub found: Looked,
     pub tested: u32,
 }
 
-#[derive(Drop)]
+#[derive(Clone, Copy)]
 pub enum Domain {
     Of(Cube),
     Refused(u32),
 }
 
-#[derive(Drop)]
+#[derive(Clone, Copy)]
 pub enum Tallied {
     Counted(u16),
     Nothing,
     Refused(u32),
 }
 
-#[derive(Drop)]
+#[derive(Clone, Copy)]
 pub enum Chosen {
     Leaf(u16),
     Nobody,
     Refused(u32),
 }
 
-#[derive(Drop)]
+#[derive(Clone, Copy)]
 pub enum Number {
     Of(u32),
     Refused(u32),
 }
 
-#[derive(Drop)]
+#[derive(Clone, Copy)]
 pub enum Compared {
     Same(bool),
     Refused(u32),
 }
 
 // The tree with one leaf's action replaced.
-#[derive(Drop)]
+#[derive(Clone, Copy)]
 pub struct AugmentedRuleTree {
     pub tree: RuleTree,
     pub leaf: u16,

@@ -1,6 +1,6 @@
 -- What a grown tree's equality with itself needs: its cubes and actions are numbers, and no way down is longer than the depth. Assumes nothing.
 use mathlib.Core.Path.{◌≡◌, refl}
-use mathlib.Core.Bool.{Bool, true, false, not, ◌&&◌, beq}
+use mathlib.Core.Bool.{Bool, true, false, not, beq}
 use mathlib.Core.List.{List}
 use Prim.Native.Nat.{ℕ, zero, suc, ◌+◌, ◌*◌, ◌/◌, ◌%◌, ◌<◌, ◌≤◌}
 use native.Mathlib.Omega.{arith}
@@ -142,13 +142,13 @@ root_rising e h =
 
 -- ---- the nodes
 module _ (n : ℕ) (nodes : List Node) (i : ℕ) (c : Cube) (e : cube_equal c c ≡ true) where
-  leaf-self : (node_at_of nodes i).children ≡ 0 → action_equal (action_in (node_at_of nodes i)) (action_in (node_at_of nodes i)) ≡ true → node_equal (suc n) nodes nodes i i c c ≡ true
+  leaf_self : (node_at_of nodes i).children ≡ 0 → action_equal (action_in (node_at_of nodes i)) (action_in (node_at_of nodes i)) ≡ true → node_equal (suc n) nodes nodes i i c c ≡ true
   unfolding node_equal
-  leaf-self f h = rw (e, eq-eqb _ 0 f, h)
+  leaf_self f h = rw (e, eq-eqb _ 0 f, h)
 
-  parent-self : ((node_at_of nodes i).children ≡ 0 → ⊥) → children_equal n nodes nodes (node_at_of nodes i).children (node_at_of nodes i).children c c ≡ true → node_equal (suc n) nodes nodes i i c c ≡ true
+  parent_self : ((node_at_of nodes i).children ≡ 0 → ⊥) → children_equal n nodes nodes (node_at_of nodes i).children (node_at_of nodes i).children c c ≡ true → node_equal (suc n) nodes nodes i i c c ≡ true
   unfolding node_equal
-  parent-self f h = rw (e, ne_eqb _ 0 f, h)
+  parent_self f h = rw (e, ne_eqb _ 0 f, h)
 
 module _ (nodes : List Node) (s : ℕ) (slots : (i : ℕ) → i < node_count s → Slot s i (node_at_of nodes i)) where
   -- node i needs no more depth than there are nodes from i on
@@ -156,9 +156,9 @@ module _ (nodes : List Node) (s : ℕ) (slots : (i : ℕ) → i < node_count s �
   Deep n = (i : ℕ) (c : Cube) → i < node_count s → node_count s ≤ n + i → Rising c → node_equal n nodes nodes i i c c ≡ true
 
   deeper : (n : ℕ) → Deep n → (i : ℕ) (c : Cube) → node_count s ≤ suc n + i → Rising c → Slot s i (node_at_of nodes i) → node_equal (suc n) nodes nodes i i c c ≡ true
-  deeper n below i c h r (leaf f v) = leaf-self n nodes i c (cube_self c r) f (action_self (action_in (node_at_of nodes i)) v)
+  deeper n below i c h r (leaf f v) = leaf_self n nodes i c (cube_self c r) f (action_self (action_in (node_at_of nodes i)) v)
   deeper n below i c h r (parent a w) =
-      parent-self n nodes i c (cube_self c r) (λ z. omega (arith, z))
+      parent_self n nodes i c (cube_self c r) (λ z. omega (arith, z))
       (all_below_all 8 _ (λ k l. below ((node_at_of nodes i).children + k) (child_cube c k) (omega arith) (omega arith) (child_rising c k r)))
 
   pub itself : (n : ℕ) → Deep n

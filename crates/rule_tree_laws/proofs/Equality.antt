@@ -14,7 +14,7 @@ use Rattle.rule_tree.specs.Change.{with_mark, without_marks, unmarked_node}
 use Rattle.rule_tree.specs.Grown.{grown_of}
 use Rattle.rule_tree.specs.Equal.{trees_equal}
 use Rattle.rule_tree.proofs.EqualLevel.{Alike, AllAlike, same_fields}
-use Rattle.rule_tree.proofs.Links.{grown-splits, grown-admitted}
+use Rattle.rule_tree.proofs.Links.{grown_splits, grown_admitted}
 use Rattle.rule_tree_laws.proofs.Slots.{grown_slot}
 use Rattle.rule_tree_laws.proofs.EqualSelf.{itself, root_rising}
 
@@ -47,27 +47,27 @@ unmarked_alike x = go (eqb x.children 0)
     go false = alike_self x
 
 module _ (t u : RuleTree) where
-  pub marked-left : (i : ℕ) → trees_equal (with_mark t i) u ≡ trees_equal t u
-  marked-left i =
+  pub marked_left : (i : ℕ) → trees_equal (with_mark t i) u ≡ trees_equal t u
+  marked_left i =
       same_fields 513 _ _ _ _ (alike_set t.nodes i _ (record { links = refl; actions = refl })) (all_self u.nodes) 0 0
       (root_of t.ends)
       (root_of u.ends)
 
-  pub marked-right : (i : ℕ) → trees_equal t (with_mark u i) ≡ trees_equal t u
-  marked-right i =
+  pub marked_right : (i : ℕ) → trees_equal t (with_mark u i) ≡ trees_equal t u
+  marked_right i =
       same_fields 513 _ _ _ _ (all_self t.nodes) (alike_set u.nodes i _ (record { links = refl; actions = refl })) 0 0
       (root_of t.ends)
       (root_of u.ends)
 
-  pub cleared-left : trees_equal (without_marks t) u ≡ trees_equal t u
-  cleared-left =
+  pub cleared_left : trees_equal (without_marks t) u ≡ trees_equal t u
+  cleared_left =
       same_fields 513 _ _ _ _ (alike_map unmarked_node unmarked_alike t.nodes) (all_self u.nodes) 0 0 (root_of t.ends) (root_of u.ends)
 
-  pub cleared-right : trees_equal t (without_marks u) ≡ trees_equal t u
-  cleared-right =
+  pub cleared_right : trees_equal t (without_marks u) ≡ trees_equal t u
+  cleared_right =
       same_fields 513 _ _ _ _ (all_self t.nodes) (alike_map unmarked_node unmarked_alike u.nodes) 0 0 (root_of t.ends) (root_of u.ends)
 
 pub equals_itself : (t : RuleTree) → grown_of t ≡ true → trees_equal t t ≡ true
 equals_itself t g =
-    let f = grown-splits t g in
-    itself t.nodes t.splits (grown_slot t g) 513 0 (root_of t.ends) (omega arith) (omega arith) (root_rising t.ends (grown-admitted t g))
+    let f = grown_splits t g in
+    itself t.nodes t.splits (grown_slot t g) 513 0 (root_of t.ends) (omega arith) (omega arith) (root_rising t.ends (grown_admitted t g))

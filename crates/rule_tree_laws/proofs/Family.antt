@@ -14,9 +14,9 @@ use Rattle.rule_tree.specs.Grown.{linked_of}
 use Rattle.rule_tree.specs.Cubes.{owner_below, split_nodes, cube_at}
 use Rattle.rule_tree.proofs.Lists.{get_d_tabulate}
 use Rattle.rule_tree.proofs.Owners.{Once, once_of, owner_found, owner_is}
-use Rattle.rule_tree.proofs.CubeSteps.{Low, root_cube, child-step}
+use Rattle.rule_tree.proofs.CubeSteps.{Low, root_cube, child_step}
 use Rattle.rule_tree.proofs.Links.{Link}
-use Rattle.rule_tree.proofs.Walking.{links_parent, linked-few, linked-links, linked-owners}
+use Rattle.rule_tree.proofs.Walking.{links_parent, linked_few, linked_links, linked_owners}
 
 -- ---- parents
 first_of_split : (c k : ℕ) → c % 8 ≡ 1 → k < 8 → (c + k - 1) / 8 ≡ c / 8
@@ -49,24 +49,24 @@ pub record Born (cs : List ℕ) (j : ℕ) : Type 0 where
 
 module _ (cs : List ℕ) (s : ℕ) (h : linked_of cs s ≡ true) (n : length cs ≡ 513) where
   parent_of : (i : ℕ) → i < 513 → (get_or cs i 0 ≡ 0 → ⊥) → Link s (get_or cs i 0) i
-  parent_of i l e = links_parent cs s i (linked-links cs s h) l e
+  parent_of i l e = links_parent cs s i (linked_links cs s h) l e
 
-  pub child-of : (i k : ℕ) → i < 513 → (get_or cs i 0 ≡ 0 → ⊥) → k < 8 → Child cs i k (get_or cs i 0 + k)
-  child-of i k l e b = record { parent = l; later = (let g = (parent_of i l e).after in omega arith); link = e; place = b; is = refl }
+  pub child_of : (i k : ℕ) → i < 513 → (get_or cs i 0 ≡ 0 → ⊥) → k < 8 → Child cs i k (get_or cs i 0 + k)
+  child_of i k l e b = record { parent = l; later = (let g = (parent_of i l e).after in omega arith); link = e; place = b; is = refl }
 
   owner : (k : ℕ) → k < s → Once cs (8 * k + 1)
-  owner k l = once_of (8 * k + 1) cs (linked-owners cs s h k l)
+  owner k l = once_of (8 * k + 1) cs (linked_owners cs s h k l)
 
-  split-owner : (k i : ℕ) → k < s → i < 513 → get_or cs i 0 ≡ 8 * k + 1 → get_or (split_nodes cs) k 0 ≡ i
-  split-owner k i l b e =
-      let few : s ≤ 64 = linked-few cs s h in
+  split_owner : (k i : ℕ) → k < s → i < 513 → get_or cs i 0 ≡ 8 * k + 1 → get_or (split_nodes cs) k 0 ≡ i
+  split_owner k i l b e =
+      let few : s ≤ 64 = linked_few cs s h in
       let o = owner k l in
       get_d_tabulate 64 k (λ m. owner_below 513 cs (8 * m + 1)) 0 (omega arith)
       ∙ owner_is 513 cs (8 * k + 1) i b e (λ j m q. o.only j (omega arith) q ∙ sym (o.only i (omega arith) e))
 
   -- the node of a split comes before the nodes that the split added
-  pub split-low : Low (split_nodes cs)
-  split-low k l =
+  pub split_low : Low (split_nodes cs)
+  split_low k l =
       let e : get_or (split_nodes cs) k 0 ≡ owner_below 513 cs (8 * k + 1) = get_d_tabulate 64 k (λ m. owner_below 513 cs (8 * m + 1)) 0 l in
       ⊎_elim (λ (z : owner_below 513 cs (8 * k + 1) ≡ 0). omega arith)
       (λ w. let q = parent_of (owner_below 513 cs (8 * k + 1)) w.0 (λ z. let y = w.1 in omega (arith, z)) in let y = w.1 in omega (arith, q.after))
@@ -82,7 +82,7 @@ module _ (cs : List ℕ) (s : ℕ) (h : linked_of cs s ≡ true) (n : length cs 
       let f : 8 * (get_or cs i 0 / 8) + 1 ≡ get_or cs i 0 = whole_first (get_or cs i 0) q.first in
       let g = q.inside in (
         ap (λ (x : ℕ). get_or (split_nodes cs) ((x - 1) / 8) 0) e ∙ ap (λ (x : ℕ). get_or (split_nodes cs) x 0) m
-            ∙ split-owner (get_or cs i 0 / 8) i (omega arith) c.parent (sym f),
+            ∙ split_owner (get_or cs i 0 / 8) i (omega arith) c.parent (sym f),
         ap (λ (x : ℕ). (x - 1) % 8) e ∙ place_in_split (get_or cs i 0) k q.first b,
       )
 
@@ -118,8 +118,8 @@ pub cube_child : (cs : List ℕ) (s : ℕ) → linked_of cs s ≡ true → lengt
     → j < node_count s → Child cs i k j → cube_in cs root j ≡ child_cube (cube_in cs root i) k
 cube_child cs s h n root i k j l c =
     let q = parent_is cs s h n i k j c in
-    let few = linked-few cs s h in
+    let few = linked_few cs s h in
     let f = c.later in
-    child-step (split_nodes cs) root (split-low cs s h n) j (omega arith) (λ z. absurd (omega (arith, z)))
+    child_step (split_nodes cs) root (split_low cs s h n) j (omega arith) (λ z. absurd (omega (arith, z)))
     ∙ ap (λ (x : ℕ). child_cube (cube_in cs root x) ((j - 1) % 8)) q.0
     ∙ ap (child_cube (cube_in cs root i)) q.1

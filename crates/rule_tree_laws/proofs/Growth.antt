@@ -2,7 +2,7 @@
 use mathlib.Core.Path.{◌≡◌, refl, sym, ap, subst, ◌∙◌}
 use mathlib.Core.Bool.{Bool, true, false}
 use mathlib.Core.Logic.{⊎_elim, ◌⊎◌, inl, inr}
-use Prim.Native.Nat.{ℕ, zero, suc, ◌+◌, ◌-◌, ◌<◌, ◌≤◌}
+use Prim.Native.Nat.{ℕ, zero, suc, ◌+◌, ◌<◌, ◌≤◌}
 use native.Mathlib.Omega.{arith}
 use borrow.Author.Tests.{eq-eqb, lt-ltb}
 use lib.ListN.{length, replicate, length-set, get_or-replicate}
@@ -15,12 +15,12 @@ use Rattle.rule_tree.specs.Grown.{ends_hold, grown_of}
 use Rattle.rule_tree.specs.Change.{fresh_tree, with_action, with_mark, split_at_of, newest_parent, undone}
 use Rattle.rule_tree.specs.Calls.{leaf_in}
 use Rattle.rule_tree.proofs.Owners.{same_or_not, below_or_not}
-use Rattle.rule_tree.proofs.Links.{grown-ends-hold}
-use Rattle.rule_tree.proofs.Changing.{split-length, split-splits, split-ends}
-use Rattle.rule_tree.proofs.Undoing.{newest_first, undo-length, undo-splits, undo-ends, newest-leaf, undo-grown}
+use Rattle.rule_tree.proofs.Links.{grown_ends_hold}
+use Rattle.rule_tree.proofs.Changing.{split_length, split_splits, split_ends}
+use Rattle.rule_tree.proofs.Undoing.{newest_first, undo_length, undo_splits, undo_ends, newest_leaf, undo_grown}
 pub use Rattle.rule_tree_laws.specs.Growth.{Growth, root, split, act, mark}
 use Rattle.rule_tree_laws.proofs.Sound.{kids, TreeFits, Sound, rebuilt, grown_sound}
-use Rattle.rule_tree_laws.proofs.Undone.{same_tree, same_nodes, undo-fits, undo-leaf, resplit-old, resplit-new}
+use Rattle.rule_tree_laws.proofs.Undone.{same_tree, same_nodes, undo_fits, undo_leaf, resplit_old, resplit_new}
 
 leaf_in_lem : (t : RuleTree) (i : ℕ) → i < node_count t.splits → kids t i ≡ 0 → leaf_in t i ≡ true
 leaf_in_lem t i l z = rw (lt-ltb i (node_count t.splits) l, eq-eqb (kids t i) 0 z)
@@ -88,12 +88,12 @@ module _ (t : RuleTree) (f : TreeFits t) (g : grown_of t ≡ true) (s : 0 < t.sp
       let h = (grown_sound t f g).few in
       record {
         tree = split_at_of (undone t) (newest_parent t);
-        grown = split (undone t) (newest_parent t) w (undo-leaf t f g s) (omega (arith, undo-splits t));
-        splits = omega (arith, split-splits (undone t) (newest_parent t), undo-splits t);
-        ends = split-ends (undone t) (newest_parent t) ∙ undo-ends t;
-        full = split-length (undone t) (newest_parent t) ∙ undo-length t ∙ f.full;
-        bare = λ i a b. resplit-new t f g s i (omega arith) b;
-        done = λ i l a. resplit-old t f g s i (⊎_elim (λ (b : i < newest_first t + 0). inl (omega arith)) (λ b. inr b) a);
+        grown = split (undone t) (newest_parent t) w (undo_leaf t f g s) (omega (arith, undo_splits t));
+        splits = omega (arith, split_splits (undone t) (newest_parent t), undo_splits t);
+        ends = split_ends (undone t) (newest_parent t) ∙ undo_ends t;
+        full = split_length (undone t) (newest_parent t) ∙ undo_length t ∙ f.full;
+        bare = λ i a b. resplit_new t f g s i (omega arith) b;
+        done = λ i l a. resplit_old t f g s i (⊎_elim (λ (b : i < newest_first t + 0). inl (omega arith)) (λ b. inr b) a);
       }
 
   -- node n of the eight is dressed as in t
@@ -101,7 +101,7 @@ module _ (t : RuleTree) (f : TreeFits t) (g : grown_of t ≡ true) (s : 0 < t.sp
   dress n l p =
       let h = grown_sound t f g in
       let e = h.few in
-      let c : kids t (newest_first t + n) ≡ 0 = newest-leaf t f.full g s (newest_first t + n) (omega arith) (omega arith) in
+      let c : kids t (newest_first t + n) ≡ 0 = newest_leaf t f.full g s (newest_first t + n) (omega arith) (omega arith) in
       let y = p.bare (newest_first t + n) (omega arith) (omega arith) in
       dressed p.tree p.grown (newest_first t + n) (omega (arith, p.splits)) (omega (arith, p.full))
       (ap (λ (x : Node). x.children) y) (ap (λ (x : Node). x.optimized) y) (node_at_of t.nodes (newest_first t + n)) c
@@ -142,8 +142,8 @@ module _ (t : RuleTree) (f : TreeFits t) (g : grown_of t ≡ true) (s : 0 < t.sp
 
 -- ---- no split: the root leaf
 module _ (t : RuleTree) (h : Sound t) (b : ends_hold t.ends ≡ true) (e : t.splits ≡ 0) where
-  root-kids : kids t 0 ≡ 0
-  root-kids =
+  root_kids : kids t 0 ≡ 0
+  root_kids =
       ⊎_elim (λ (z : kids t 0 ≡ 0). z)
       (λ (n : kids t 0 ≡ 0 → ⊥).
       let k = h.link 0 (omega arith) n in
@@ -153,14 +153,14 @@ module _ (t : RuleTree) (h : Sound t) (b : ends_hold t.ends ≡ true) (e : t.spl
   abbrev fresh : RuleTree
   fresh = fresh_tree t.ends (action_in (node_at_of t.nodes 0))
 
-  root-dressed : Dressed fresh 0 (node_at_of t.nodes 0)
-  root-dressed =
+  root_dressed : Dressed fresh 0 (node_at_of t.nodes 0)
+  root_dressed =
       let v = h.held 0 (omega arith) in
-      dressed fresh (root t.ends (action_in (node_at_of t.nodes 0)) b v) 0 (omega arith) (omega arith) refl refl (node_at_of t.nodes 0) root-kids v
+      dressed fresh (root t.ends (action_in (node_at_of t.nodes 0)) b v) 0 (omega arith) (omega arith) refl refl (node_at_of t.nodes 0) root_kids v
 
   rooted : Growth t
   rooted =
-      let d = root-dressed in
+      let d = root_dressed in
       subst Growth
       (same_tree d.tree t (d.splits ∙ sym e) d.ends
       (same_nodes 513 d.tree.nodes t.nodes d.count
@@ -182,10 +182,10 @@ module _ (t : RuleTree) (h : Sound t) (b : ends_hold t.ends ≡ true) (e : t.spl
 
 -- ---- by the number of splits
 from_splits : (s : ℕ) (t : RuleTree) → t.splits ≡ s → TreeFits t → grown_of t ≡ true → Growth t
-from_splits zero t e f g = rooted t (grown_sound t f g) (grown-ends-hold t g) e
+from_splits zero t e f g = rooted t (grown_sound t f g) (grown_ends_hold t g) e
 from_splits (suc r) t e f g =
     let s : 0 < t.splits = omega arith in
-    regrown t f g s (from_splits r (undone t) (omega (arith, undo-splits t)) (undo-fits t f g s) (undo-grown t f.full g s))
+    regrown t f g s (from_splits r (undone t) (omega (arith, undo_splits t)) (undo_fits t f g s) (undo_grown t f.full g s))
 
 pub grown_growth : (t : RuleTree) → TreeFits t → grown_of t ≡ true → Growth t
 grown_growth t f g = from_splits t.splits t refl f g

@@ -23,11 +23,11 @@ use Rattle.rule_tree.specs.Walk.{walk_of, leaf_of}
 use Rattle.rule_tree.specs.Calls.{found_in, tested_in, opened_in, opened_of}
 use Rattle.rule_tree.proofs.Plain.{PointFits}
 use Rattle.rule_tree.proofs.CubeSteps.{Low, parent_of}
-use Rattle.rule_tree.proofs.Links.{Link, grown-linked, grown-whole}
-use Rattle.rule_tree.proofs.Walking.{eight_inside, On, at_root, at_leaf, step, descent, linked-few, linked-links}
+use Rattle.rule_tree.proofs.Links.{Link, grown_linked, grown_whole}
+use Rattle.rule_tree.proofs.Walking.{eight_inside, On, at_root, at_leaf, step, descent, linked_few, linked_links}
 pub use Rattle.rule_tree_laws.specs.Opened.{depth_at, depth_in, depth_of}
-use Rattle.rule_tree_laws.proofs.Family.{Child, child-of, parent_is, split-low, nought_or_more}
-use Rattle.rule_tree_laws.proofs.Partition.{grown-one-leaf, grown-none, tested-few}
+use Rattle.rule_tree_laws.proofs.Family.{Child, child_of, parent_is, split_low, nought_or_more}
+use Rattle.rule_tree_laws.proofs.Partition.{grown_one_leaf, grown_none, tested_few}
 
 -- ---- depth does not depend on the fuel, and a child is one split deeper than its parent
 root_depth : (d : ℕ) (ps : List ℕ) (i : ℕ) → i ≡ 0 → depth_at d ps i ≡ 0
@@ -70,33 +70,33 @@ record Counted (cs : List ℕ) (s : ℕ) (root : Cube) (p : Point) (cube : Cube)
   deep : tested ≤ 1 + 8 * depth_in cs i
 
 module _ (cs : List ℕ) (s : ℕ) (h : linked_of cs s ≡ true) (n : length cs ≡ 513) where
-  pub depth-child : (i k j : ℕ) → j < node_count s → Child cs i k j → depth_in cs j ≡ suc (depth_in cs i)
-  depth-child i k j l c =
-      let few = linked-few cs s h in
+  pub depth_child : (i k j : ℕ) → j < node_count s → Child cs i k j → depth_in cs j ≡ suc (depth_in cs i)
+  depth_child i k j l c =
+      let few = linked_few cs s h in
       let f = c.later in
-      one_deeper (split_nodes cs) (split-low cs s h n) j (omega arith) (omega arith)
+      one_deeper (split_nodes cs) (split_low cs s h n) j (omega arith) (omega arith)
       ∙ ap (λ (x : ℕ). suc (depth_in cs x)) (parent_is cs s h n i k j c).0
 
   module _ (root : Cube) (w : Whole root) (p : Point) where
-    counted-child : (cube : Cube) (i : ℕ) → i < 513 → Link s (get_or cs i 0) i → Counted cs s root p cube i
+    counted_child : (cube : Cube) (i : ℕ) → i < 513 → Link s (get_or cs i 0) i → Counted cs s root p cube i
         → Counted cs s root p (child_cube cube (place_of_point cube p)) (get_or cs i 0 + place_of_point cube p)
-    counted-child cube i b q c =
+    counted_child cube i b q c =
         let k : place_of_point cube p < 8 = place_below cube p in
         let l : get_or cs i 0 + place_of_point cube p < node_count s = eight_inside s (get_or cs i 0) i (place_of_point cube p) q k in
-        let e = depth-child i (place_of_point cube p) (get_or cs i 0 + place_of_point cube p) l (child-of cs s h n i (place_of_point cube p) b (λ z. absurd (let g = q.after in omega (arith, z))) k) in
+        let e = depth_child i (place_of_point cube p) (get_or cs i 0 + place_of_point cube p) l (child_of cs s h n i (place_of_point cube p) b (λ z. absurd (let g = q.after in omega (arith, z))) k) in
         let d = c.deep in
         record {
           tested = c.tested + 1 + place_of_point cube p;
           node = l;
-          on = step cs root p cube i c.tested c.on s (linked-few cs s h) q;
+          on = step cs root p cube i c.tested c.on s (linked_few cs s h) q;
           deep = omega arith;
         }
 
     -- the walk tests at most the root and eight cubes for each split above its leaf
-    pub walk-deep : contains_of root p ≡ true → (walk_of cs root p).tested ≤ 1 + 8 * depth_in cs (walk_of cs root p).node
-    walk-deep e =
-        let d = descent cs root p s (linked-few cs s h) (linked-links cs s h) (Counted cs s root p)
-        (λ cube i b q v f c. counted-child cube i b q c) w e
+    pub walk_deep : contains_of root p ≡ true → (walk_of cs root p).tested ≤ 1 + 8 * depth_in cs (walk_of cs root p).node
+    walk_deep e =
+        let d = descent cs root p s (linked_few cs s h) (linked_links cs s h) (Counted cs s root p)
+        (λ cube i b q v f c. counted_child cube i b q c) w e
         (record { tested = 1; node = omega arith; on = at_root cs root p w e; deep = omega arith }) in
         let c = d.kept in
         subst (λ (r : Reached). r.tested ≤ 1 + 8 * depth_in cs r.node)
@@ -121,26 +121,26 @@ module _ (t : RuleTree) (g : grown_of t ≡ true) (n : length t.nodes ≡ 513) (
       → opened_of t p ≡ record { found = Found (action_in (node_at_of t.nodes (leaf_of t p))); tested = (walk_of (children_of t.nodes) (root_of t.ends) p).tested }
   opened_inside e =
       opened_grown t p g
-      ∙ (λ j. record { found = (grown-one-leaf t g n f p e).found j; tested = tested_inside t p e j })
+      ∙ (λ j. record { found = (grown_one_leaf t g n f p e).found j; tested = tested_inside t p e j })
 
   -- "An outside point counts 1"
-  pub opened-outside : contains_of (root_of t.ends) p ≡ false → opened_of t p ≡ record { found = Nothing; tested = 1 }
-  opened-outside e =
-      opened_grown t p g ∙ (λ j. record { found = (grown-none t g n f p e).nothing j; tested = tested_outside t p e j })
+  pub opened_outside : contains_of (root_of t.ends) p ≡ false → opened_of t p ≡ record { found = Nothing; tested = 1 }
+  opened_outside e =
+      opened_grown t p g ∙ (λ j. record { found = (grown_none t g n f p e).nothing j; tested = tested_outside t p e j })
 
-  tested-is : contains_of (root_of t.ends) p ≡ true → (opened_of t p).tested ≡ (walk_of (children_of t.nodes) (root_of t.ends) p).tested
-  tested-is e = ap (λ (l : Lookup). l.tested) (opened_inside e)
+  tested_is : contains_of (root_of t.ends) p ≡ true → (opened_of t p).tested ≡ (walk_of (children_of t.nodes) (root_of t.ends) p).tested
+  tested_is e = ap (λ (l : Lookup). l.tested) (opened_inside e)
 
   -- "For a leaf d splits deep it is at most 1 + 8 × d"
-  pub opened-deep : contains_of (root_of t.ends) p ≡ true → (opened_of t p).tested ≤ 1 + 8 * depth_of t (leaf_of t p)
-  opened-deep e =
-      subst (λ (m : ℕ). m ≤ 1 + 8 * depth_of t (leaf_of t p)) (sym (tested-is e))
-      (walk-deep (children_of t.nodes) t.splits (grown-linked t g) (length-map t.nodes (λ x. x.children) ∙ n) (root_of t.ends) (grown-whole t g f) p e)
+  pub opened_deep : contains_of (root_of t.ends) p ≡ true → (opened_of t p).tested ≤ 1 + 8 * depth_of t (leaf_of t p)
+  opened_deep e =
+      subst (λ (m : ℕ). m ≤ 1 + 8 * depth_of t (leaf_of t p)) (sym (tested_is e))
+      (walk_deep (children_of t.nodes) t.splits (grown_linked t g) (length-map t.nodes (λ x. x.children) ∙ n) (root_of t.ends) (grown_whole t g f) p e)
 
   -- "and never above 513"
-  pub opened-few : (opened_of t p).tested ≤ 513
-  opened-few = go (contains_of (root_of t.ends) p) refl
+  pub opened_few : (opened_of t p).tested ≤ 513
+  opened_few = go (contains_of (root_of t.ends) p) refl
     where
       go : (b : Bool) → contains_of (root_of t.ends) p ≡ b → (opened_of t p).tested ≤ 513
-      go true e = let a = tested-is e in let l = tested-few t g n f p e in let x = l.0 in let y = l.1 in omega arith
-      go false e = let a : (opened_of t p).tested ≡ 1 = ap (λ (l : Lookup). l.tested) (opened-outside e) in omega arith
+      go true e = let a = tested_is e in let l = tested_few t g n f p e in let x = l.0 in let y = l.1 in omega arith
+      go false e = let a : (opened_of t p).tested ≡ 1 = ap (λ (l : Lookup). l.tested) (opened_outside e) in omega arith

@@ -13,7 +13,7 @@ use Rattle.remy.specs.declared.point.Point.{Point}
 use Rattle.remy.specs.declared.cube.Cube.{Cube}
 use Rattle.floats.specs.Interval.{End}
 use Rattle.remy.specs.Cube.{ack, send, ratio, point_of, contains_of, child_cube, place_of_point, root_of, Whole}
-use Rattle.remy.proofs.Partition.{whole-child, whole_root, child-inside, place-only, place_below}
+use Rattle.remy.proofs.Partition.{whole_child, whole_root, child_inside, place_only, place_below}
 use Rattle.remy.proofs.Lens.{nan_ack, nan_send, nan_ratio}
 use Rattle.rule_tree.specs.declared.Node.{Node}
 use Rattle.rule_tree.specs.declared.RuleTree.{RuleTree}
@@ -21,15 +21,14 @@ use Rattle.rule_tree.specs.declared.Looked.TheVariants.{Found, Nothing}
 use Rattle.rule_tree.specs.declared.inner.walk.Reached.{Reached}
 use Rattle.rule_tree.specs.Nodes.{node_at_of, children_of, node_count, is_leaf_of, action_in}
 use Rattle.rule_tree.specs.Grown.{linked_of, grown_of}
-use Rattle.rule_tree.specs.Cubes.{cube_of}
 use Rattle.rule_tree.specs.Walk.{walk_of, leaf_of}
 use Rattle.rule_tree.specs.Calls.{found_in, lookup_of}
 use Rattle.rule_tree.proofs.LinkWays.{children_at}
 use Rattle.rule_tree.proofs.Plain.{PointFits}
-use Rattle.rule_tree.proofs.Links.{Link, grown-linked, grown-whole}
-use Rattle.rule_tree.proofs.Walking.{eight_inside, On, at_root, at_leaf, step, links_parent, descent, walk_leaf, linked-few, linked-links}
+use Rattle.rule_tree.proofs.Links.{Link, grown_linked, grown_whole}
+use Rattle.rule_tree.proofs.Walking.{eight_inside, On, at_root, at_leaf, step, links_parent, descent, walk_leaf, linked_few, linked_links}
 pub use Rattle.rule_tree_laws.specs.Leaves.{InOneLeaf, InNone}
-use Rattle.rule_tree_laws.proofs.Family.{Child, child-of, born, cube_in, cube_root, cube_child, nought_or_more}
+use Rattle.rule_tree_laws.proofs.Family.{Child, child_of, born, cube_in, cube_root, cube_child, nought_or_more}
 
 -- node j, whose cube holds p, is on the walk from the root
 record Way (cs : List ℕ) (root : Cube) (p : Point) (j : ℕ) : Type 0 where
@@ -54,25 +53,25 @@ module _ (cs : List ℕ) (s : ℕ) (h : linked_of cs s ≡ true) (n : length cs 
       let b = born cs s h n j l y in
       let f = b.child.later in
       subst Whole (sym (cube_child cs s h n root b.mother b.place j l b.child))
-      (whole-child (cube_in cs root b.mother) (whole_from m b.mother (omega arith) (omega arith)) b.place))
+      (whole_child (cube_in cs root b.mother) (whole_from m b.mother (omega arith) (omega arith)) b.place))
       (nought_or_more j)
 
   -- every node's cube can be halved again
-  pub node-whole : (j : ℕ) → j < node_count s → Whole (cube_in cs root j)
-  node-whole j l = whole_from j j (omega arith) l
+  pub node_whole : (j : ℕ) → j < node_count s → Whole (cube_in cs root j)
+  node_whole j l = whole_from j j (omega arith) l
 
   module _ (p : Point) where
-    way-root : contains_of (cube_in cs root 0) p ≡ true → Way cs root p 0
-    way-root e =
+    way_root : contains_of (cube_in cs root 0) p ≡ true → Way cs root p 0
+    way_root e =
         let i : contains_of root p ≡ true = rw (cube_root cs root) at e in
         record { inside = i; tested = 1; on = rw (cube_root cs root) (at_root cs root p w i) }
 
-    way-child : (q k j : ℕ) → j < node_count s → Child cs q k j → contains_of (child_cube (cube_in cs root q) k) p ≡ true → Way cs root p q → Way cs root p j
-    way-child q k j l c e v =
+    way_child : (q k j : ℕ) → j < node_count s → Child cs q k j → contains_of (child_cube (cube_in cs root q) k) p ≡ true → Way cs root p q → Way cs root p j
+    way_child q k j l c e v =
         let c₀ = cube_in cs root q in
         let f = c.later in
-        let x : k ≡ place_of_point c₀ p = place-only c₀ (node-whole q (omega arith)) p k c.place e in
-        let o = step cs root p c₀ q v.tested v.on s (linked-few cs s h) (links_parent cs s q (linked-links cs s h) c.parent c.link) in
+        let x : k ≡ place_of_point c₀ p = place_only c₀ (node_whole q (omega arith)) p k c.place e in
+        let o = step cs root p c₀ q v.tested v.on s (linked_few cs s h) (links_parent cs s q (linked_links cs s h) c.parent c.link) in
         let d : cube_in cs root j ≡ child_cube c₀ (place_of_point c₀ p) = cube_child cs s h n root q k j l c ∙ ap (child_cube c₀) x in
         let m : j ≡ get_or cs q 0 + place_of_point c₀ p = c.is ∙ ap (λ (y : ℕ). get_or cs q 0 + y) x in
         record {
@@ -82,54 +81,54 @@ module _ (cs : List ℕ) (s : ℕ) (h : linked_of cs s ≡ true) (n : length cs 
               (subst (λ (y : ℕ). On cs root p (child_cube c₀ (place_of_point c₀ p)) y (v.tested + 1 + place_of_point c₀ p)) (sym m) o);
         }
 
-    way-from : (m j : ℕ) → j ≤ m → j < node_count s → contains_of (cube_in cs root j) p ≡ true → Way cs root p j
-    way-from zero j a l e =
+    way_from : (m j : ℕ) → j ≤ m → j < node_count s → contains_of (cube_in cs root j) p ≡ true → Way cs root p j
+    way_from zero j a l e =
         let z : j ≡ 0 = omega arith in
-        subst (Way cs root p) (sym z) (way-root (subst (λ (x : ℕ). contains_of (cube_in cs root x) p ≡ true) z e))
-    way-from (suc m) j a l e =
+        subst (Way cs root p) (sym z) (way_root (subst (λ (x : ℕ). contains_of (cube_in cs root x) p ≡ true) z e))
+    way_from (suc m) j a l e =
         ⊎_elim
-        (λ (z : j ≡ 0). subst (Way cs root p) (sym z) (way-root (subst (λ (x : ℕ). contains_of (cube_in cs root x) p ≡ true) z e)))
+        (λ (z : j ≡ 0). subst (Way cs root p) (sym z) (way_root (subst (λ (x : ℕ). contains_of (cube_in cs root x) p ≡ true) z e)))
         (λ (y : 0 < j).
         let b = born cs s h n j l y in
         let q = b.mother in
         let f = b.child.later in
         let c : contains_of (child_cube (cube_in cs root q) b.place) p ≡ true = ap (λ (x : Cube). contains_of x p) (sym (cube_child cs s h n root q b.place j l b.child)) ∙ e in
-        way-child q b.place j l b.child c
-        (way-from m q (omega arith) (omega arith) (child-inside (cube_in cs root q) (node-whole q (omega arith)) p b.place c)))
+        way_child q b.place j l b.child c
+        (way_from m q (omega arith) (omega arith) (child_inside (cube_in cs root q) (node_whole q (omega arith)) p b.place c)))
         (nought_or_more j)
 
     way : (j : ℕ) → j < node_count s → contains_of (cube_in cs root j) p ≡ true → Way cs root p j
-    way j l e = way-from j j (omega arith) l e
+    way j l e = way_from j j (omega arith) l e
 
     -- the points of a node's cube are the box's
-    pub node-inside : (j : ℕ) → j < node_count s → contains_of (cube_in cs root j) p ≡ true → contains_of root p ≡ true
-    node-inside j l e = (way j l e).inside
+    pub node_inside : (j : ℕ) → j < node_count s → contains_of (cube_in cs root j) p ≡ true → contains_of root p ≡ true
+    node_inside j l e = (way j l e).inside
 
     -- no node's cube holds a point that is not in the box
     pub no_node : contains_of root p ≡ false → (j : ℕ) → j < node_count s → contains_of (cube_in cs root j) p ≡ false
     no_node e j l = go (contains_of (cube_in cs root j) p) refl
       where
         go : (b : Bool) → contains_of (cube_in cs root j) p ≡ b → b ≡ false
-        go true f = absurd (let g : contains_of root p ≡ true = node-inside j l f in let z : ◌≡◌ {A = ℕ} 0 1 = cc in omega arith)
+        go true f = absurd (let g : contains_of root p ≡ true = node_inside j l f in let z : ◌≡◌ {A = ℕ} 0 1 = cc in omega arith)
         go false f = refl
 
     -- a leaf whose cube holds p is where the walk ends
-    leaf-reached : (j : ℕ) → j < node_count s → get_or cs j 0 ≡ 0 → contains_of (cube_in cs root j) p ≡ true → j ≡ (walk_of cs root p).node
-    leaf-reached j l z e =
+    leaf_reached : (j : ℕ) → j < node_count s → get_or cs j 0 ≡ 0 → contains_of (cube_in cs root j) p ≡ true → j ≡ (walk_of cs root p).node
+    leaf_reached j l z e =
         let v = way j l e in
         ap (λ (r : Reached). r.node) (at_leaf cs root p (cube_in cs root j) j v.tested v.on z)
 
-    pub one-leaf : contains_of root p ≡ true → OneLeaf cs s root p (walk_of cs root p).node
-    one-leaf e =
-        let few = linked-few cs s h in
-        let links = linked-links cs s h in
+    pub one_leaf : contains_of root p ≡ true → OneLeaf cs s root p (walk_of cs root p).node
+    one_leaf e =
+        let few = linked_few cs s h in
+        let links = linked_links cs s h in
         let d = descent cs root p s few links (λ cube i. (i < node_count s) × (cube ≡ cube_in cs root i)) more w e (omega arith, sym (cube_root cs root)) in
         let r : d.node ≡ (walk_of cs root p).node = ap (λ (x : Reached). x.node) (at_leaf cs root p d.cube d.node d.tested d.on d.leaf) in
         subst (OneLeaf cs s root p) r (record {
           node = d.kept.0;
           leaf = d.leaf;
           inside = ap (λ (c : Cube). contains_of c p) (sym d.kept.1) ∙ d.on.inside;
-          only = λ j l z f. leaf-reached j l z f ∙ sym r;
+          only = λ j l z f. leaf_reached j l z f ∙ sym r;
         })
       where
         more : (cube : Cube) (i : ℕ) → i < 513 → Link s (get_or cs i 0) i → Whole cube → contains_of cube p ≡ true → (i < node_count s) × (cube ≡ cube_in cs root i)
@@ -137,7 +136,7 @@ module _ (cs : List ℕ) (s : ℕ) (h : linked_of cs s ≡ true) (n : length cs 
         more cube i b q v f a =
             let k : place_of_point cube p < 8 = place_below cube p in
             let l : get_or cs i 0 + place_of_point cube p < node_count s = eight_inside s (get_or cs i 0) i (place_of_point cube p) q k in
-            let c = child-of cs s h n i (place_of_point cube p) b (λ z. absurd (let g = q.after in omega (arith, z))) k in
+            let c = child_of cs s h n i (place_of_point cube p) b (λ z. absurd (let g = q.after in omega (arith, z))) k in
             (l, ap (λ (x : Cube). child_cube x (place_of_point cube p)) a.1 ∙ sym (cube_child cs s h n root i (place_of_point cube p) (get_or cs i 0 + place_of_point cube p) l c))
 
 -- ---- a tree: its links are tested, its box has any upper ends that make a whole cube
@@ -160,10 +159,10 @@ unfolding lookup_of
 looked_up t p g = rw g
 
 module _ (t : RuleTree) (p : Point) (h : linked_of (children_of t.nodes) t.splits ≡ true) (n : length t.nodes ≡ 513) (w : Whole (root_of t.ends)) where
-  pub in-one-leaf : contains_of (root_of t.ends) p ≡ true → InOneLeaf t p
-  in-one-leaf e =
+  pub in_one_leaf : contains_of (root_of t.ends) p ≡ true → InOneLeaf t p
+  in_one_leaf e =
       let cs = children_of t.nodes in
-      let o = one-leaf cs t.splits h (length-map t.nodes (λ x. x.children) ∙ n) (root_of t.ends) w p e in
+      let o = one_leaf cs t.splits h (length-map t.nodes (λ x. x.children) ∙ n) (root_of t.ends) w p e in
       record {
         node = o.node;
         leaf = link_leaf t.nodes (leaf_of t p) o.leaf;
@@ -172,8 +171,8 @@ module _ (t : RuleTree) (p : Point) (h : linked_of (children_of t.nodes) t.split
         found = found_inside t p e;
       }
 
-  pub in-none : contains_of (root_of t.ends) p ≡ false → InNone t p
-  in-none e =
+  pub in_none : contains_of (root_of t.ends) p ≡ false → InNone t p
+  in_none e =
       record {
         none = no_node (children_of t.nodes) t.splits h (length-map t.nodes (λ x. x.children) ∙ n) (root_of t.ends) w p e;
         nothing = found_outside t p e;
@@ -183,28 +182,28 @@ module _ (t : RuleTree) (p : Point) (h : linked_of (children_of t.nodes) t.split
 pub parts_box : (t : RuleTree) → linked_of (children_of t.nodes) t.splits ≡ true → length t.nodes ≡ 513
     → End (ack t.ends) → End (send t.ends) → End (ratio t.ends) → (p : Point)
     → (contains_of (root_of t.ends) p ≡ true → InOneLeaf t p) × (contains_of (root_of t.ends) p ≡ false → InNone t p)
-parts_box t h n a s r p = let w = whole_root t.ends a s r in (in-one-leaf t p h n w, in-none t p h n w)
+parts_box t h n a s r p = let w = whole_root t.ends a s r in (in_one_leaf t p h n w, in_none t p h n w)
 
 -- ---- a grown tree
 module _ (t : RuleTree) (g : grown_of t ≡ true) (n : length t.nodes ≡ 513) (f : PointFits t.ends) (p : Point) where
-  pub grown-one-leaf : contains_of (root_of t.ends) p ≡ true → InOneLeaf t p
-  grown-one-leaf e = in-one-leaf t p (grown-linked t g) n (grown-whole t g f) e
+  pub grown_one_leaf : contains_of (root_of t.ends) p ≡ true → InOneLeaf t p
+  grown_one_leaf e = in_one_leaf t p (grown_linked t g) n (grown_whole t g f) e
 
-  pub grown-none : contains_of (root_of t.ends) p ≡ false → InNone t p
-  grown-none e = in-none t p (grown-linked t g) n (grown-whole t g f) e
+  pub grown_none : contains_of (root_of t.ends) p ≡ false → InNone t p
+  grown_none e = in_none t p (grown_linked t g) n (grown_whole t g f) e
 
-  pub lookup-found : contains_of (root_of t.ends) p ≡ true → lookup_of t p ≡ Found (action_in (node_at_of t.nodes (leaf_of t p)))
-  lookup-found e = looked_up t p g ∙ (grown-one-leaf e).found
+  pub lookup_found : contains_of (root_of t.ends) p ≡ true → lookup_of t p ≡ Found (action_in (node_at_of t.nodes (leaf_of t p)))
+  lookup_found e = looked_up t p g ∙ (grown_one_leaf e).found
 
-  pub lookup-nothing : contains_of (root_of t.ends) p ≡ false → lookup_of t p ≡ Nothing
-  lookup-nothing e = looked_up t p g ∙ (grown-none e).nothing
+  pub lookup_nothing : contains_of (root_of t.ends) p ≡ false → lookup_of t p ≡ Nothing
+  lookup_nothing e = looked_up t p g ∙ (grown_none e).nothing
 
   -- what a search in order tests on the way: at most one cube for each node up to the leaf
-  pub tested-few : contains_of (root_of t.ends) p ≡ true
+  pub tested_few : contains_of (root_of t.ends) p ≡ true
       → ((walk_of (children_of t.nodes) (root_of t.ends) p).tested ≤ 1 + leaf_of t p) × (1 + leaf_of t p ≤ 513)
-  tested-few e =
-      let h = grown-linked t g in
-      let l = walk_leaf (children_of t.nodes) (root_of t.ends) p t.splits (linked-few (children_of t.nodes) t.splits h) (linked-links (children_of t.nodes) t.splits h) (grown-whole t g f) e in
+  tested_few e =
+      let h = grown_linked t g in
+      let l = walk_leaf (children_of t.nodes) (root_of t.ends) p t.splits (linked_few (children_of t.nodes) t.splits h) (linked_links (children_of t.nodes) t.splits h) (grown_whole t g f) e in
       (l.few, let b = l.below in omega arith)
 
 -- NaN finds nothing

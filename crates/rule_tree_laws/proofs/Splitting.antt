@@ -11,7 +11,7 @@ use lib.ListN.{get_or, length}
 use Rattle.remy.specs.declared.point.Point.{Point}
 use Rattle.remy.specs.declared.cube.Cube.{Cube}
 use Rattle.remy.specs.Cube.{contains_of, child_cube, place_of_point, root_of, Whole}
-use Rattle.remy.proofs.Partition.{place_below, place-holds}
+use Rattle.remy.proofs.Partition.{place_below, place_holds}
 use Rattle.rule_tree.specs.declared.Node.{Node}
 use Rattle.rule_tree.specs.declared.RuleTree.{RuleTree}
 use Rattle.rule_tree.specs.declared.Looked.TheVariants.{Found}
@@ -23,13 +23,13 @@ use Rattle.rule_tree.specs.Change.{split_at_of}
 use Rattle.rule_tree.specs.Calls.{found_in, leaf_in}
 use Rattle.rule_tree.proofs.LinkWays.{children_at}
 use Rattle.rule_tree.proofs.Owners.{same_or_not}
-use Rattle.rule_tree.proofs.Links.{grown-linked, grown-whole}
+use Rattle.rule_tree.proofs.Links.{grown_linked, grown_whole}
 use Rattle.rule_tree.proofs.Plain.{PointFits}
 use Rattle.rule_tree.proofs.GrownTree.{leaf_below, leaf_childless}
-use Rattle.rule_tree.proofs.Changing.{split-length, split-splits, split-ends, split-child, split-other, split-old-leaf}
-use Rattle.rule_tree_laws.proofs.SplitLinks.{links_513, after-513, old-link, new-link, split-linked}
-use Rattle.rule_tree_laws.proofs.Family.{Child, child-of, born, cube_in, cube_root, cube_child, nought_or_more}
-use Rattle.rule_tree_laws.proofs.Partition.{node-whole, InOneLeaf, in-one-leaf, in-none}
+use Rattle.rule_tree.proofs.Changing.{split_length, split_splits, split_ends, split_child, split_other, split_old_leaf}
+use Rattle.rule_tree_laws.proofs.SplitLinks.{links_513, after_513, old_link, new_link, split_linked}
+use Rattle.rule_tree_laws.proofs.Family.{Child, child_of, born, cube_in, cube_root, cube_child, nought_or_more}
+use Rattle.rule_tree_laws.proofs.Partition.{node_whole, InOneLeaf, in_one_leaf, in_none}
 
 -- ---- a list of links, and another that has the same links but for a leaf i
 module _
@@ -68,80 +68,80 @@ module _ (t : RuleTree) (i : ℕ) (n : length t.nodes ≡ 513) (g : linked_of (c
   below = leaf_below t i l
 
   -- the nodes of before keep their cubes
-  pub cubes-kept : (j : ℕ) → j < node_count t.splits → cube_of (split_at_of t i) j ≡ cube_of t j
-  cubes-kept j b =
-      ap (λ (e : Point). cube_in (children_of (split_at_of t i).nodes) (root_of e) j) (split-ends t i)
+  pub cubes_kept : (j : ℕ) → j < node_count t.splits → cube_of (split_at_of t i) j ≡ cube_of t j
+  cubes_kept j b =
+      ap (λ (e : Point). cube_in (children_of (split_at_of t i).nodes) (root_of e) j) (split_ends t i)
       ∙ cubes_same (children_of t.nodes) (children_of (split_at_of t i).nodes) t.splits (split_at_of t i).splits i
-      g (split-linked t i n g l r) (links_513 t.nodes n) (links_513 (split_at_of t i).nodes (after-513 t i n g l r))
-      (let e = split-splits t i in omega arith) (children_at t.nodes i ∙ leaf_childless t i l) (old-link t i n g l r) (root_of t.ends) j b
+      g (split_linked t i n g l r) (links_513 t.nodes n) (links_513 (split_at_of t i).nodes (after_513 t i n g l r))
+      (let e = split_splits t i in omega arith) (children_at t.nodes i ∙ leaf_childless t i l) (old_link t i n g l r) (root_of t.ends) j b
 
   -- the new nodes have the eight halves of the leaf's cube
-  pub cubes-new : (k : ℕ) → k < 8 → cube_of (split_at_of t i) (8 * t.splits + 1 + k) ≡ child_cube (cube_of t i) k
-  cubes-new k b =
+  pub cubes_new : (k : ℕ) → k < 8 → cube_of (split_at_of t i) (8 * t.splits + 1 + k) ≡ child_cube (cube_of t i) k
+  cubes_new k b =
       let cs = children_of (split_at_of t i).nodes in
       let s = (split_at_of t i).splits in
-      let h = split-linked t i n g l r in
-      let m = links_513 (split_at_of t i).nodes (after-513 t i n g l r) in
+      let h = split_linked t i n g l r in
+      let m = links_513 (split_at_of t i).nodes (after_513 t i n g l r) in
       let f = below in
-      let z : get_or cs i 0 ≡ 8 * t.splits + 1 = new-link t i n g l r in
-      let c : Child cs i k (get_or cs i 0 + k) = child-of cs s h m i k (omega arith) (λ y. absurd (omega (arith, y))) b in
-      let e = split-splits t i in
+      let z : get_or cs i 0 ≡ 8 * t.splits + 1 = new_link t i n g l r in
+      let c : Child cs i k (get_or cs i 0 + k) = child_of cs s h m i k (omega arith) (λ y. absurd (omega (arith, y))) b in
+      let e = split_splits t i in
       ap (λ (x : ℕ). cube_of (split_at_of t i) (x + k)) (sym z)
       ∙ cube_child cs s h m (root_of (split_at_of t i).ends) i k (get_or cs i 0 + k) (omega arith) c
-      ∙ ap (λ (x : Cube). child_cube x k) (cubes-kept i below)
+      ∙ ap (λ (x : Cube). child_cube x k) (cubes_kept i below)
 
   module _ (w : Whole (root_of t.ends)) (p : Point) (e : contains_of (root_of t.ends) p ≡ true) where
-    after-whole : Whole (root_of (split_at_of t i).ends)
-    after-whole = rw (split-ends t i) w
+    after_whole : Whole (root_of (split_at_of t i).ends)
+    after_whole = rw (split_ends t i) w
 
-    after-inside : contains_of (root_of (split_at_of t i).ends) p ≡ true
-    after-inside = rw (split-ends t i) e
+    after_inside : contains_of (root_of (split_at_of t i).ends) p ≡ true
+    after_inside = rw (split_ends t i) e
 
     reached : InOneLeaf t p
-    reached = in-one-leaf t p g n w e
+    reached = in_one_leaf t p g n w e
 
     after : InOneLeaf (split_at_of t i) p
-    after = in-one-leaf (split_at_of t i) p (split-linked t i n g l r) (after-513 t i n g l r) after-whole after-inside
+    after = in_one_leaf (split_at_of t i) p (split_linked t i n g l r) (after_513 t i n g l r) after_whole after_inside
 
     -- a point of another leaf reaches that leaf still
-    pub reach-other : leaf_of t p ≢ i → leaf_of (split_at_of t i) p ≡ leaf_of t p
-    reach-other o =
+    pub reach_other : leaf_of t p ≢ i → leaf_of (split_at_of t i) p ≡ leaf_of t p
+    reach_other o =
         let b = reached.node in
-        let s = split-splits t i in
+        let s = split_splits t i in
         sym (after.only (leaf_of t p) (omega arith)
-        (ap (λ (x : Node). eqb x.children 0) (split-other t i (leaf_of t p) o (inl b)) ∙ reached.leaf)
-        (ap (λ (c : Cube). contains_of c p) (cubes-kept (leaf_of t p) b) ∙ reached.inside))
+        (ap (λ (x : Node). eqb x.children 0) (split_other t i (leaf_of t p) o (inl b)) ∙ reached.leaf)
+        (ap (λ (c : Cube). contains_of c p) (cubes_kept (leaf_of t p) b) ∙ reached.inside))
 
     -- a point of the leaf reaches the child whose cube holds it
     pub reach_split : leaf_of t p ≡ i → leaf_of (split_at_of t i) p ≡ 8 * t.splits + 1 + place_of_point (cube_of t i) p
     reach_split o =
         let k = place_of_point (cube_of t i) p in
         let b : k < 8 = place_below (cube_of t i) p in
-        let s = split-splits t i in
-        let v : Whole (cube_of t i) = node-whole (children_of t.nodes) t.splits g (links_513 t.nodes n) (root_of t.ends) w i below in
+        let s = split_splits t i in
+        let v : Whole (cube_of t i) = node_whole (children_of t.nodes) t.splits g (links_513 t.nodes n) (root_of t.ends) w i below in
         let x : contains_of (cube_of t i) p ≡ true = subst (λ (j : ℕ). contains_of (cube_of t j) p ≡ true) o reached.inside in
         sym (after.only (8 * t.splits + 1 + k) (omega arith)
-        (ap (λ (y : Node). eqb y.children 0) (split-child t i (omega arith) k b))
-        (ap (λ (c : Cube). contains_of c p) (cubes-new k b) ∙ place-holds (cube_of t i) v p x))
+        (ap (λ (y : Node). eqb y.children 0) (split_child t i (omega arith) k b))
+        (ap (λ (c : Cube). contains_of c p) (cubes_new k b) ∙ place_holds (cube_of t i) v p x))
 
-    pub cube-other : leaf_of t p ≢ i → reached_cube (split_at_of t i) p ≡ reached_cube t p
-    cube-other o = ap (cube_of (split_at_of t i)) (reach-other o) ∙ cubes-kept (leaf_of t p) reached.node
+    pub cube_other : leaf_of t p ≢ i → reached_cube (split_at_of t i) p ≡ reached_cube t p
+    cube_other o = ap (cube_of (split_at_of t i)) (reach_other o) ∙ cubes_kept (leaf_of t p) reached.node
 
-    pub cube-split : leaf_of t p ≡ i → reached_cube (split_at_of t i) p ≡ child_cube (cube_of t i) (place_of_point (cube_of t i) p)
-    cube-split o = ap (cube_of (split_at_of t i)) (reach_split o) ∙ cubes-new (place_of_point (cube_of t i) p) (place_below (cube_of t i) p)
+    pub cube_split : leaf_of t p ≡ i → reached_cube (split_at_of t i) p ≡ child_cube (cube_of t i) (place_of_point (cube_of t i) p)
+    cube_split o = ap (cube_of (split_at_of t i)) (reach_split o) ∙ cubes_new (place_of_point (cube_of t i) p) (place_below (cube_of t i) p)
 
-    found-kept : found_in (split_at_of t i) p ≡ found_in t p
-    found-kept =
+    found_kept : found_in (split_at_of t i) p ≡ found_in t p
+    found_kept =
         after.found
         ∙ ⊎_elim
         (λ (o : leaf_of t p ≡ i).
         let k = place_of_point (cube_of t i) p in
         ap (λ (j : ℕ). Found (action_in (node_at_of (split_at_of t i).nodes j))) (reach_split o)
-        ∙ ap (λ (x : Node). Found (action_in x)) (split-child t i (omega arith) k (place_below (cube_of t i) p))
+        ∙ ap (λ (x : Node). Found (action_in x)) (split_child t i (omega arith) k (place_below (cube_of t i) p))
         ∙ ap (λ (j : ℕ). Found (action_in (node_at_of t.nodes j))) (sym o))
         (λ (o : leaf_of t p ≢ i).
-        ap (λ (j : ℕ). Found (action_in (node_at_of (split_at_of t i).nodes j))) (reach-other o)
-        ∙ ap (λ (x : Node). Found (action_in x)) (split-other t i (leaf_of t p) o (inl reached.node)))
+        ap (λ (j : ℕ). Found (action_in (node_at_of (split_at_of t i).nodes j))) (reach_other o)
+        ∙ ap (λ (x : Node). Found (action_in x)) (split_other t i (leaf_of t p) o (inl reached.node)))
         (same_or_not (leaf_of t p) i)
         ∙ sym reached.found
 
@@ -150,57 +150,57 @@ module _ (t : RuleTree) (i : ℕ) (n : length t.nodes ≡ 513) (g : linked_of (c
   split_keeps w p = go (contains_of (root_of t.ends) p) refl
     where
       go : (b : Bool) → contains_of (root_of t.ends) p ≡ b → found_in (split_at_of t i) p ≡ found_in t p
-      go true e = found-kept w p e
+      go true e = found_kept w p e
       go false e =
-          (in-none (split_at_of t i) p (split-linked t i n g l r) (after-513 t i n g l r) (rw (split-ends t i) w) (rw (split-ends t i) e)).nothing
-          ∙ sym (in-none t p g n w e).nothing
+          (in_none (split_at_of t i) p (split_linked t i n g l r) (after_513 t i n g l r) (rw (split_ends t i) w) (rw (split_ends t i) e)).nothing
+          ∙ sym (in_none t p g n w e).nothing
 
 -- ---- two splits, of the leaf i and then of the leaf j
 module _
     (t : RuleTree) (i j : ℕ) (n : length t.nodes ≡ 513) (g : linked_of (children_of t.nodes) t.splits ≡ true) (l : leaf_in t i ≡ true) (m : leaf_in t j ≡ true) (o : i ≢ j) (r : t.splits < 63)
     (w : Whole (root_of t.ends))
   where
-    first-linked : linked_of (children_of (split_at_of t i).nodes) (split_at_of t i).splits ≡ true
-    first-linked = split-linked t i n g l (omega arith)
+    first_linked : linked_of (children_of (split_at_of t i).nodes) (split_at_of t i).splits ≡ true
+    first_linked = split_linked t i n g l (omega arith)
 
-    first-513 : length (split_at_of t i).nodes ≡ 513
-    first-513 = split-length t i ∙ n
+    first_513 : length (split_at_of t i).nodes ≡ 513
+    first_513 = split_length t i ∙ n
 
-    still-leaf : leaf_in (split_at_of t i) j ≡ true
-    still-leaf = split-old-leaf t i n (leaf_below t i l) (omega arith) j (λ e. o (sym e)) (inl (leaf_below t j m)) ∙ m
+    still_leaf : leaf_in (split_at_of t i) j ≡ true
+    still_leaf = split_old_leaf t i n (leaf_below t i l) (omega arith) j (λ e. o (sym e)) (inl (leaf_below t j m)) ∙ m
 
     room : (split_at_of t i).splits < 64
-    room = let e = split-splits t i in omega arith
+    room = let e = split_splits t i in omega arith
 
-    first-whole : Whole (root_of (split_at_of t i).ends)
-    first-whole = rw (split-ends t i) w
+    first_whole : Whole (root_of (split_at_of t i).ends)
+    first_whole = rw (split_ends t i) w
 
     -- every point's action is kept
-    pub both-keep : (p : Point) → found_in (split_at_of (split_at_of t i) j) p ≡ found_in t p
-    both-keep p = split_keeps (split_at_of t i) j first-513 first-linked still-leaf room first-whole p ∙ split_keeps t i n g l (omega arith) w p
+    pub both_keep : (p : Point) → found_in (split_at_of (split_at_of t i) j) p ≡ found_in t p
+    both_keep p = split_keeps (split_at_of t i) j first_513 first_linked still_leaf room first_whole p ∙ split_keeps t i n g l (omega arith) w p
 
     module _ (p : Point) (e : contains_of (root_of t.ends) p ≡ true) where
-      first-inside : contains_of (root_of (split_at_of t i).ends) p ≡ true
-      first-inside = rw (split-ends t i) e
+      first_inside : contains_of (root_of (split_at_of t i).ends) p ≡ true
+      first_inside = rw (split_ends t i) e
 
       both_first : leaf_of t p ≡ i → reached_cube (split_at_of (split_at_of t i) j) p ≡ child_cube (cube_of t i) (place_of_point (cube_of t i) p)
       both_first q =
           let b = leaf_below t j m in
           let x = reach_split t i n g l (omega arith) w p e q in
-          cube-other (split_at_of t i) j first-513 first-linked still-leaf room first-whole p first-inside (λ y. absurd (omega (arith, y)))
-          ∙ cube-split t i n g l (omega arith) w p e q
+          cube_other (split_at_of t i) j first_513 first_linked still_leaf room first_whole p first_inside (λ y. absurd (omega (arith, y)))
+          ∙ cube_split t i n g l (omega arith) w p e q
 
-      both-second : leaf_of t p ≡ j → reached_cube (split_at_of (split_at_of t i) j) p ≡ child_cube (cube_of t j) (place_of_point (cube_of t j) p)
-      both-second q =
-          let x = reach-other t i n g l (omega arith) w p e (λ y. o (sym y ∙ q)) in
-          cube-split (split_at_of t i) j first-513 first-linked still-leaf room first-whole p first-inside (x ∙ q)
-          ∙ ap (λ (c : Cube). child_cube c (place_of_point c p)) (cubes-kept t i n g l (omega arith) j (leaf_below t j m))
+      both_second : leaf_of t p ≡ j → reached_cube (split_at_of (split_at_of t i) j) p ≡ child_cube (cube_of t j) (place_of_point (cube_of t j) p)
+      both_second q =
+          let x = reach_other t i n g l (omega arith) w p e (λ y. o (sym y ∙ q)) in
+          cube_split (split_at_of t i) j first_513 first_linked still_leaf room first_whole p first_inside (x ∙ q)
+          ∙ ap (λ (c : Cube). child_cube c (place_of_point c p)) (cubes_kept t i n g l (omega arith) j (leaf_below t j m))
 
-      both-neither : leaf_of t p ≢ i → leaf_of t p ≢ j → reached_cube (split_at_of (split_at_of t i) j) p ≡ reached_cube t p
-      both-neither a b =
-          let x = reach-other t i n g l (omega arith) w p e a in
-          cube-other (split_at_of t i) j first-513 first-linked still-leaf room first-whole p first-inside (λ y. b (sym x ∙ y))
-          ∙ cube-other t i n g l (omega arith) w p e a
+      both_neither : leaf_of t p ≢ i → leaf_of t p ≢ j → reached_cube (split_at_of (split_at_of t i) j) p ≡ reached_cube t p
+      both_neither a b =
+          let x = reach_other t i n g l (omega arith) w p e a in
+          cube_other (split_at_of t i) j first_513 first_linked still_leaf room first_whole p first_inside (λ y. b (sym x ∙ y))
+          ∙ cube_other t i n g l (omega arith) w p e a
 
 -- the order of two splits does not change the cube that a point of the box lies in
 pub split_order_lem :
@@ -209,19 +209,19 @@ pub split_order_lem :
     → reached_cube (split_at_of (split_at_of t i) j) p ≡ reached_cube (split_at_of (split_at_of t j) i) p
 split_order_lem t i j n g l m o r w p e =
     ⊎_elim
-    (λ (a : leaf_of t p ≡ i). both_first t i j n g l m o r w p e a ∙ sym (both-second t j i n g m l (λ x. o (sym x)) r w p e a))
+    (λ (a : leaf_of t p ≡ i). both_first t i j n g l m o r w p e a ∙ sym (both_second t j i n g m l (λ x. o (sym x)) r w p e a))
     (λ (a : leaf_of t p ≢ i).
     ⊎_elim
-    (λ (b : leaf_of t p ≡ j). both-second t i j n g l m o r w p e b ∙ sym (both_first t j i n g m l (λ x. o (sym x)) r w p e b))
-    (λ (b : leaf_of t p ≢ j). both-neither t i j n g l m o r w p e a b ∙ sym (both-neither t j i n g m l (λ x. o (sym x)) r w p e b a))
+    (λ (b : leaf_of t p ≡ j). both_second t i j n g l m o r w p e b ∙ sym (both_first t j i n g m l (λ x. o (sym x)) r w p e b))
+    (λ (b : leaf_of t p ≢ j). both_neither t i j n g l m o r w p e a b ∙ sym (both_neither t j i n g m l (λ x. o (sym x)) r w p e b a))
     (same_or_not (leaf_of t p) j))
     (same_or_not (leaf_of t p) i)
 
 -- ---- a grown tree, whose ends are the usual ones
 module _ (t : RuleTree) (n : length t.nodes ≡ 513) (g : grown_of t ≡ true) (f : PointFits t.ends) where
-  pub grown-split-keeps : (i : ℕ) → leaf_in t i ≡ true → t.splits < 64 → (p : Point) → found_in (split_at_of t i) p ≡ found_in t p
-  grown-split-keeps i l r p = split_keeps t i n (grown-linked t g) l r (grown-whole t g f) p
+  pub grown_split_keeps : (i : ℕ) → leaf_in t i ≡ true → t.splits < 64 → (p : Point) → found_in (split_at_of t i) p ≡ found_in t p
+  grown_split_keeps i l r p = split_keeps t i n (grown_linked t g) l r (grown_whole t g f) p
 
-  pub grown-split-order : (i j : ℕ) → leaf_in t i ≡ true → leaf_in t j ≡ true → i ≢ j → t.splits < 63
+  pub grown_split_order : (i j : ℕ) → leaf_in t i ≡ true → leaf_in t j ≡ true → i ≢ j → t.splits < 63
       → (p : Point) → contains_of (root_of t.ends) p ≡ true → reached_cube (split_at_of (split_at_of t i) j) p ≡ reached_cube (split_at_of (split_at_of t j) i) p
-  grown-split-order i j l m o r p e = split_order_lem t i j n (grown-linked t g) l m o r (grown-whole t g f) p e
+  grown_split_order i j l m o r p e = split_order_lem t i j n (grown_linked t g) l m o r (grown_whole t g f) p e

@@ -10,7 +10,7 @@ use Rattle.remy.specs.Action.{valid_of}
 use Rattle.remy.specs.Cube.{ends_admitted}
 use Rattle.rule_tree.specs.Grown.{ends_hold, grown_of}
 use Rattle.rule_tree.specs.Calls.{blank_tree, new_of}
-use Rattle.rule_tree.proofs.Links.{grown-ends-hold}
+use Rattle.rule_tree.proofs.Links.{grown_ends_hold}
 
 no_box : ends_hold blank_tree.ends ≡ false
 unfolding ends_hold ends_admitted le
@@ -20,7 +20,7 @@ pub blank_refused : grown_of blank_tree ≡ false
 blank_refused = go (grown_of blank_tree) refl
   where
     go : (b : Bool) → grown_of blank_tree ≡ b → b ≡ false
-    go true g = absurd (let e = grown-ends-hold blank_tree g in let n = no_box in let z : ◌≡◌ {A = ℕ} 0 1 = cc in omega arith)
+    go true g = absurd (let e = grown_ends_hold blank_tree g in let n = no_box in let z : ◌≡◌ {A = ℕ} 0 1 = cc in omega arith)
     go false g = refl
 
 pub refused_start : (e : Point) (a : Action) → ends_hold e && valid_of a ≡ false → grown_of (new_of e a).tree ≡ false

@@ -22,9 +22,9 @@ use Rattle.rule_tree.proofs.Owners.{same_or_not}
 use Rattle.rule_tree.proofs.Plain.{ActionFits, PointFits}
 use Rattle.rule_tree.proofs.Patched.{Place, new, here, other, place}
 use Rattle.rule_tree.proofs.GrownTree.{leaf_below, leaf_childless, leaf_from}
-use Rattle.rule_tree.proofs.Links.{grown-splits}
-use Rattle.rule_tree.proofs.Changing.{split-length, split-splits, split-ends, split-parent, split-child, split-other, split_grown}
-use Rattle.rule_tree.proofs.Undoing.{newest_first, undo-length, undo-splits, undo-ends, newest-before, newest-children, newest-only, undo-parent, undo-new, undo-other}
+use Rattle.rule_tree.proofs.Links.{grown_splits}
+use Rattle.rule_tree.proofs.Changing.{split_length, split_splits, split_ends, split_parent, split_child, split_other, split_grown}
+use Rattle.rule_tree.proofs.Undoing.{newest_first, undo_length, undo_splits, undo_ends, newest_before, newest_children, newest_only, undo_parent, undo_new, undo_other}
 use Rattle.rule_tree_laws.proofs.Sound.{TreeFits, grown_sound}
 
 pub same_tree : (t u : RuleTree) → t.splits ≡ u.splits → t.ends ≡ u.ends → t.nodes ≡ u.nodes → t ≡ u
@@ -42,108 +42,108 @@ none_fits = record { multiplier = zero-fits; increment = record { sfits = omega 
 
 -- ---- a grown tree with a split, as a program holds it
 module _ (t : RuleTree) (f : TreeFits t) (g : grown_of t ≡ true) (s : 0 < t.splits) where
-  pub undo-fits : TreeFits (undone t)
-  undo-fits = record {
-    full = undo-length t ∙ f.full;
-    ends = subst PointFits (sym (undo-ends t)) f.ends;
-    actions = λ i l. go i l (place (newest_first t) (newest_parent t) i (newest-before t f.full g s));
+  pub undo_fits : TreeFits (undone t)
+  undo_fits = record {
+    full = undo_length t ∙ f.full;
+    ends = subst PointFits (sym (undo_ends t)) f.ends;
+    actions = λ i l. go i l (place (newest_first t) (newest_parent t) i (newest_before t f.full g s));
   }
     where
       go : (i : ℕ) → i < 513 → Place (newest_first t) (newest_parent t) i → ActionFits (action_in (node_at_of (undone t).nodes i))
-      go i l (new a b) = subst (λ (x : Node). ActionFits (action_in x)) (sym (undo-new t f.full g s i a b)) none_fits
+      go i l (new a b) = subst (λ (x : Node). ActionFits (action_in x)) (sym (undo_new t f.full g s i a b)) none_fits
       go i l (here e) =
-          subst (λ (x : Node). ActionFits (action_in x)) (sym (ap (node_at_of (undone t).nodes) e ∙ undo-parent t f.full g s))
+          subst (λ (x : Node). ActionFits (action_in x)) (sym (ap (node_at_of (undone t).nodes) e ∙ undo_parent t f.full g s))
           (f.actions (newest_parent t) (omega (arith, e)))
-      go i l (other m a) = subst (λ (x : Node). ActionFits (action_in x)) (sym (undo-other t f.full g s i m a)) (f.actions i l)
+      go i l (other m a) = subst (λ (x : Node). ActionFits (action_in x)) (sym (undo_other t f.full g s i m a)) (f.actions i l)
 
-  pub undo-leaf : leaf_in (undone t) (newest_parent t) ≡ true
-  undo-leaf =
-      leaf_from (undone t) (newest_parent t) (omega (arith, newest-before t f.full g s, undo-splits t))
-      (ap (λ (x : Node). x.children) (undo-parent t f.full g s))
+  pub undo_leaf : leaf_in (undone t) (newest_parent t) ≡ true
+  undo_leaf =
+      leaf_from (undone t) (newest_parent t) (omega (arith, newest_before t f.full g s, undo_splits t))
+      (ap (λ (x : Node). x.children) (undo_parent t f.full g s))
 
   -- the parent split again is what it was, and so is every node but its children
-  pub resplit-old : (i : ℕ) → (i < newest_first t) ⊎ (newest_first t + 8 ≤ i) → node_at_of (split_at_of (undone t) (newest_parent t)).nodes i ≡ node_at_of t.nodes i
-  resplit-old i a =
+  pub resplit_old : (i : ℕ) → (i < newest_first t) ⊎ (newest_first t + 8 ≤ i) → node_at_of (split_at_of (undone t) (newest_parent t)).nodes i ≡ node_at_of t.nodes i
+  resplit_old i a =
       ⊎_elim
       (λ (e : i ≡ newest_parent t).
-      let b = newest-before t f.full g s in
-      let first : 8 * (undone t).splits + 1 ≡ newest_first t = omega (arith, undo-splits t) in
+      let b = newest_before t f.full g s in
+      let first : 8 * (undone t).splits + 1 ≡ newest_first t = omega (arith, undo_splits t) in
       let x = node_at_of t.nodes (newest_parent t) in
       ap (node_at_of (split_at_of (undone t) (newest_parent t)).nodes) e
-      ∙ split-parent (undone t) (newest_parent t) (omega (arith, undo-length t, f.full, grown-splits t g)) (omega (arith, undo-splits t))
-      ∙ ap (λ (y : Node). linked_to y (8 * (undone t).splits + 1)) (undo-parent t f.full g s)
-      ∙ ap (linked_to x) (first ∙ sym (newest-children t f.full g s))
+      ∙ split_parent (undone t) (newest_parent t) (omega (arith, undo_length t, f.full, grown_splits t g)) (omega (arith, undo_splits t))
+      ∙ ap (λ (y : Node). linked_to y (8 * (undone t).splits + 1)) (undo_parent t f.full g s)
+      ∙ ap (linked_to x) (first ∙ sym (newest_children t f.full g s))
       ∙ ap (node_at_of t.nodes) (sym e))
       (λ (m : i ≡ newest_parent t → ⊥).
-      split-other (undone t) (newest_parent t) i m (aside a) ∙ undo-other t f.full g s i m a)
+      split_other (undone t) (newest_parent t) i m (aside a) ∙ undo_other t f.full g s i m a)
       (same_or_not i (newest_parent t))
     where
       aside : (i < newest_first t) ⊎ (newest_first t + 8 ≤ i) → (i < node_count (undone t).splits) ⊎ (node_count ((undone t).splits + 1) ≤ i)
-      aside (inl l) = inl (omega (arith, undo-splits t))
-      aside (inr l) = inr (omega (arith, undo-splits t))
+      aside (inl l) = inl (omega (arith, undo_splits t))
+      aside (inr l) = inr (omega (arith, undo_splits t))
 
-  pub resplit-new :
+  pub resplit_new :
       (i : ℕ) → newest_first t ≤ i → i < newest_first t + 8
       → node_at_of (split_at_of (undone t) (newest_parent t)).nodes i ≡ leaf_with (action_in (node_at_of t.nodes (newest_parent t)))
-  resplit-new i a b =
-      let e : 8 * (undone t).splits + 1 + (i - newest_first t) ≡ i = omega (arith, undo-splits t) in
+  resplit_new i a b =
+      let e : 8 * (undone t).splits + 1 + (i - newest_first t) ≡ i = omega (arith, undo_splits t) in
       ap (node_at_of (split_at_of (undone t) (newest_parent t)).nodes) (sym e)
-      ∙ split-child (undone t) (newest_parent t) (omega (arith, undo-splits t, undo-length t, f.full, grown-splits t g)) (i - newest_first t) (omega arith)
-      ∙ ap (λ (x : Node). leaf_with (action_in x)) (undo-parent t f.full g s)
+      ∙ split_child (undone t) (newest_parent t) (omega (arith, undo_splits t, undo_length t, f.full, grown_splits t g)) (i - newest_first t) (omega arith)
+      ∙ ap (λ (x : Node). leaf_with (action_in x)) (undo_parent t f.full g s)
 
 -- ---- "Split then take back must give the same tree, marks included"
 module _ (t : RuleTree) (i : ℕ) (f : TreeFits t) (g : grown_of t ≡ true) (l : leaf_in t i ≡ true) (r : t.splits < 64) where
   full : length (split_at_of t i).nodes ≡ 513
-  full = split-length t i ∙ f.full
+  full = split_length t i ∙ f.full
 
   grown : grown_of (split_at_of t i) ≡ true
   grown = split_grown t i f.full g l r
 
   some : 0 < (split_at_of t i).splits
-  some = omega (arith, split-splits t i)
+  some = omega (arith, split_splits t i)
 
   parent : node_at_of (split_at_of t i).nodes i ≡ linked_to (node_at_of t.nodes i) (8 * t.splits + 1)
-  parent = split-parent t i (omega (arith, leaf_below t i l, f.full)) (leaf_below t i l)
+  parent = split_parent t i (omega (arith, leaf_below t i l, f.full)) (leaf_below t i l)
 
-  split-first : newest_first (split_at_of t i) ≡ 8 * t.splits + 1
-  split-first = omega (arith, split-splits t i)
+  split_first : newest_first (split_at_of t i) ≡ 8 * t.splits + 1
+  split_first = omega (arith, split_splits t i)
 
-  split-newest : i ≡ newest_parent (split_at_of t i)
-  split-newest = newest-only (split_at_of t i) full grown some i (ap (λ (x : Node). x.children) parent ∙ sym split-first)
+  split_newest : i ≡ newest_parent (split_at_of t i)
+  split_newest = newest_only (split_at_of t i) full grown some i (ap (λ (x : Node). x.children) parent ∙ sym split_first)
 
   back : (j : ℕ) → j < 513 → node_at_of (undone (split_at_of t i)).nodes j ≡ node_at_of t.nodes j
-  back j b = go (place (newest_first (split_at_of t i)) (newest_parent (split_at_of t i)) j (newest-before (split_at_of t i) full grown some))
+  back j b = go (place (newest_first (split_at_of t i)) (newest_parent (split_at_of t i)) j (newest_before (split_at_of t i) full grown some))
     where
       aside : (j < newest_first (split_at_of t i)) ⊎ (newest_first (split_at_of t i) + 8 ≤ j) → (j < node_count t.splits) ⊎ (node_count (t.splits + 1) ≤ j)
-      aside (inl a) = inl (omega (arith, split-first))
-      aside (inr a) = inr (omega (arith, split-first))
+      aside (inl a) = inl (omega (arith, split_first))
+      aside (inr a) = inr (omega (arith, split_first))
 
       go : Place (newest_first (split_at_of t i)) (newest_parent (split_at_of t i)) j → node_at_of (undone (split_at_of t i)).nodes j ≡ node_at_of t.nodes j
       go (new a c) =
-          undo-new (split_at_of t i) full grown some j a c ∙ sym ((grown_sound t f g).unused j (omega (arith, split-first)) b)
+          undo_new (split_at_of t i) full grown some j a c ∙ sym ((grown_sound t f g).unused j (omega (arith, split_first)) b)
       go (here e) =
           ap (node_at_of (undone (split_at_of t i)).nodes) e
-          ∙ undo-parent (split_at_of t i) full grown some
-          ∙ ap (λ (k : ℕ). linked_to (node_at_of (split_at_of t i).nodes k) 0) (sym split-newest)
+          ∙ undo_parent (split_at_of t i) full grown some
+          ∙ ap (λ (k : ℕ). linked_to (node_at_of (split_at_of t i).nodes k) 0) (sym split_newest)
           ∙ ap (λ (x : Node). linked_to x 0) parent
           ∙ ap (linked_to (node_at_of t.nodes i)) (sym (leaf_childless t i l))
-          ∙ ap (node_at_of t.nodes) (split-newest ∙ sym e)
+          ∙ ap (node_at_of t.nodes) (split_newest ∙ sym e)
       go (other m a) =
-          undo-other (split_at_of t i) full grown some j m a ∙ split-other t i j (λ e. m (e ∙ split-newest)) (aside a)
+          undo_other (split_at_of t i) full grown some j m a ∙ split_other t i j (λ e. m (e ∙ split_newest)) (aside a)
 
-  pub split-undone : undone (split_at_of t i) ≡ t
-  split-undone =
-      same_tree (undone (split_at_of t i)) t (omega (arith, undo-splits (split_at_of t i), split-splits t i)) (undo-ends (split_at_of t i) ∙ split-ends t i)
-      (same_nodes 513 (undone (split_at_of t i)).nodes t.nodes (undo-length (split_at_of t i) ∙ full) f.full back)
+  pub split_undone : undone (split_at_of t i) ≡ t
+  split_undone =
+      same_tree (undone (split_at_of t i)) t (omega (arith, undo_splits (split_at_of t i), split_splits t i)) (undo_ends (split_at_of t i) ∙ split_ends t i)
+      (same_nodes 513 (undone (split_at_of t i)).nodes t.nodes (undo_length (split_at_of t i) ∙ full) f.full back)
 
   -- the same of the public calls
-  split-gives : (split_of t i).tree ≡ split_at_of t i
+  split_gives : (split_of t i).tree ≡ split_at_of t i
   unfolding split_of
-  split-gives = rw (g, l, lt-ltb _ _ r)
+  split_gives = rw (g, l, lt-ltb _ _ r)
 
-  undo-gives : undo_of (split_at_of t i) ≡ taken t
+  undo_gives : undo_of (split_at_of t i) ≡ taken t
   unfolding undo_of
-  undo-gives = rw (grown, lt-ltb _ _ some, split-undone)
+  undo_gives = rw (grown, lt-ltb _ _ some, split_undone)
 
-  pub split-taken-back : undo_of (split_of t i).tree ≡ taken t
-  split-taken-back = ap undo_of split-gives ∙ undo-gives
+  pub split_taken_back : undo_of (split_of t i).tree ≡ taken t
+  split_taken_back = ap undo_of split_gives ∙ undo_gives

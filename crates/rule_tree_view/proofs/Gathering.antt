@@ -5,7 +5,7 @@ use mathlib.Core.List.{List, [], ◌∷◌, map, ◌++◌}
 use Prim.Native.Nat.{ℕ, zero, suc, ◌+◌, ◌<◌, ◌≤◌}
 use native.Mathlib.Numerals.{add-one}
 use native.Mathlib.Omega.{arith}
-use borrow.Author.Tests.{eq-eqb, ne_eqb, le-leb, lt-leb, leb-true, lt-ltb, le-ltb}
+use borrow.Author.Tests.{eq-eqb, ne_eqb, le-leb, lt-leb, leb-true}
 use lib.Dec.{eqb, leb}
 use lib.ListN.{length, get_or, set, take, drop, length-map, length-replicate, replicate}
 use Rattle.remy.specs.Action.{valid_of}
@@ -13,7 +13,7 @@ use Rattle.rule_tree.specs.declared.Node.{Node}
 use Rattle.rule_tree.specs.Lists.{count_below}
 use Rattle.rule_tree.specs.Nodes.{blank_node, action_in}
 use Rattle.rule_tree.proofs.Lists.{count_below_yes, count_below_no}
-use Rattle.rule_tree_view.specs.View.{link_of, links_of, count_of, leaf_among}
+use Rattle.rule_tree_view.specs.View.{link_of, links_of, count_of}
 
 -- ---- the first i elements of a list laid over another
 laid_suc : {A : Type 0} (xs ys : List A) (i : ℕ) (d : A) → i < length xs → i < length ys
@@ -77,10 +77,3 @@ pub none_counts : (cs : List ℕ) (i x : ℕ) → get_or cs i 0 ≡ 0
     → x ≡ count_below i (λ j. not (eqb (get_or cs j 0) 0)) → x ≡ count_below (i + 1) (λ j. not (eqb (get_or cs j 0) 0))
 none_counts cs i x z h =
     let e = count_below_no i (λ j. not (eqb (get_or cs j 0) 0)) (ap not (eq-eqb (get_or cs i 0) 0 z)) in omega arith
-
--- ---- a number that names a leaf
-pub leaf_in_lem : (cs : List ℕ) (n leaf : ℕ) → leaf < n → eqb (get_or cs leaf 0) 0 ≡ leaf_among cs n leaf
-leaf_in_lem cs n leaf l = rw (lt-ltb leaf n l)
-
-pub leaf_out : (cs : List ℕ) (n leaf : ℕ) → n ≤ leaf → false ≡ leaf_among cs n leaf
-leaf_out cs n leaf l = rw (le-ltb leaf n l)

@@ -18,7 +18,7 @@ use Rattle.rule_tree.proofs.Lists.{all_below_at}
 use Rattle.rule_tree.proofs.LinkWays.{children_at, children_count}
 use Rattle.rule_tree.proofs.GrownTree.{Parent, link_parts}
 use Rattle.rule_tree.proofs.Owners.{below_or_not}
-use Rattle.rule_tree.proofs.Walking.{linked-links}
+use Rattle.rule_tree.proofs.Walking.{linked_links}
 use Rattle.rule_tree_view.specs.View.{parents_in, lent_nodes, link_of, links_of, linked_parents}
 use Rattle.rule_tree_view.proofs.Gathering.{mapped_at, link_valid, link_invalid}
 use Rattle.rule_tree_view.proofs.Parents.{count_same}
@@ -45,71 +45,71 @@ module _ (nodes : List Node) where
   n = length nodes
 
   -- ---- the tree's nodes
-  pub lent-full : n ≤ 513 → length all ≡ 513
-  lent-full l = omega (arith, length-append nodes (replicate (513 - n) blank_node), length-replicate (513 - n) blank_node)
+  pub lent_full : n ≤ 513 → length all ≡ 513
+  lent_full l = omega (arith, length-append nodes (replicate (513 - n) blank_node), length-replicate (513 - n) blank_node)
 
-  pub lent-used : (i : ℕ) → i < n → node_at_of all i ≡ node_at_of nodes i
-  lent-used i l = get_or-append nodes (replicate (513 - n) blank_node) no_node i l
+  pub lent_used : (i : ℕ) → i < n → node_at_of all i ≡ node_at_of nodes i
+  lent_used i l = get_or-append nodes (replicate (513 - n) blank_node) no_node i l
 
-  pub lent-blank : (i : ℕ) → n ≤ i → i < 513 → node_at_of all i ≡ blank_node
-  lent-blank i l m =
+  pub lent_blank : (i : ℕ) → n ≤ i → i < 513 → node_at_of all i ≡ blank_node
+  lent_blank i l m =
       subst (λ (k : ℕ). node_at_of all k ≡ blank_node) (omega arith)
       (get_or-append-add nodes (replicate (513 - n) blank_node) (i - n) no_node ∙ get_or-replicate (513 - n) (i - n) blank_node no_node (omega arith))
 
-  pub parents-counted : n ≤ 513 → linked_parents (children_of all) ≡ parents_in nodes
-  parents-counted l =
+  pub parents_counted : n ≤ 513 → linked_parents (children_of all) ≡ parents_in nodes
+  parents_counted l =
       count_past 513 n (λ i. not (eqb (get_or (children_of all) i 0) 0)) (λ i. not (is_leaf_of nodes i)) l
-      (λ i b. ap (λ (k : ℕ). not (eqb k 0)) (children_at all i ∙ ap (λ (x : Node). x.children) (lent-used i b)))
-      (λ i b m. ap (λ (k : ℕ). not (eqb k 0)) (children_at all i ∙ ap (λ (x : Node). x.children) (lent-blank i b m)))
+      (λ i b. ap (λ (k : ℕ). not (eqb k 0)) (children_at all i ∙ ap (λ (x : Node). x.children) (lent_used i b)))
+      (λ i b m. ap (λ (k : ℕ). not (eqb k 0)) (children_at all i ∙ ap (λ (x : Node). x.children) (lent_blank i b m)))
 
   -- ---- the links that are gathered
   module _ (few : n ≤ 513) where
     heads : length (take n (map link_of nodes)) ≡ n
     heads = length-take-le n (map link_of nodes) (omega (arith, length-map nodes link_of))
 
-    links-full : length (links_of nodes n) ≡ 513
+    links_full : length (links_of nodes n) ≡ 513
     unfolding links_of
-    links-full =
+    links_full =
         omega (arith, length-append (take n (map link_of nodes)) (drop n (replicate 513 0)), heads, length-drop {A = ℕ} n (replicate 513 0), length-replicate {A = ℕ} 513 0)
 
-    links-at : (i : ℕ) → i < n → get_or (links_of nodes n) i 0 ≡ link_of (node_at_of nodes i)
+    links_at : (i : ℕ) → i < n → get_or (links_of nodes n) i 0 ≡ link_of (node_at_of nodes i)
     unfolding links_of
-    links-at i l =
+    links_at i l =
         get_or-append (take n (map link_of nodes)) (drop n (replicate 513 0)) 0 i (omega (arith, heads))
         ∙ get_or-take n (map link_of nodes) i 0 l
         ∙ mapped_at link_of nodes i no_node 0 l
 
-    links-past : (i : ℕ) → n ≤ i → i < 513 → get_or (links_of nodes n) i 0 ≡ 0
+    links_past : (i : ℕ) → n ≤ i → i < 513 → get_or (links_of nodes n) i 0 ≡ 0
     unfolding links_of
-    links-past i l m =
+    links_past i l m =
         let h = heads in
         subst (λ (k : ℕ). get_or (take n (map link_of nodes) ++ drop n (replicate 513 0)) k 0 ≡ 0) (omega arith)
         (get_or-append-add (take n (map link_of nodes)) (drop n (replicate 513 0)) (i - n) 0
         ∙ get_or-drop n (replicate 513 0) (i - n) 0
         ∙ get_or-replicate 513 (n + (i - n)) 0 0 (omega arith))
 
-    pub links-all : ((i : ℕ) → i < n → valid_of (action_in (node_at_of nodes i)) ≡ true) → links_of nodes n ≡ children_of all
-    links-all v =
-        ext_get_or 0 (links_of nodes n) (children_of all) (links-full ∙ sym (children_count all ∙ lent-full few))
+    pub links_all : ((i : ℕ) → i < n → valid_of (action_in (node_at_of nodes i)) ≡ true) → links_of nodes n ≡ children_of all
+    links_all v =
+        ext_get_or 0 (links_of nodes n) (children_of all) (links_full ∙ sym (children_count all ∙ lent_full few))
         (λ i b. ⊎_elim
         (λ (l : i < n).
-        links-at i l ∙ sym (link_valid (node_at_of nodes i) true (sym (v i l)) refl)
-        ∙ sym (children_at all i ∙ ap (λ (x : Node). x.children) (lent-used i l)))
+        links_at i l ∙ sym (link_valid (node_at_of nodes i) true (sym (v i l)) refl)
+        ∙ sym (children_at all i ∙ ap (λ (x : Node). x.children) (lent_used i l)))
         (λ (l : n ≤ i).
-        let m : i < 513 = omega (arith, b, links-full) in
-        links-past i l m ∙ sym (children_at all i ∙ ap (λ (x : Node). x.children) (lent-blank i l m)))
+        let m : i < 513 = omega (arith, b, links_full) in
+        links_past i l m ∙ sym (children_at all i ∙ ap (λ (x : Node). x.children) (lent_blank i l m)))
         (below_or_not i n))
 
     -- no tested link is that of an action that is not valid
-    pub links-valid : (s : ℕ) → linked_of (links_of nodes n) s ≡ true → (i : ℕ) → i < n → valid_of (action_in (node_at_of nodes i)) ≡ true
-    links-valid s h i l = go (valid_of (action_in (node_at_of nodes i))) refl
+    pub links_valid : (s : ℕ) → linked_of (links_of nodes n) s ≡ true → (i : ℕ) → i < n → valid_of (action_in (node_at_of nodes i)) ≡ true
+    links_valid s h i l = go (valid_of (action_in (node_at_of nodes i))) refl
       where
         go : (b : Bool) → valid_of (action_in (node_at_of nodes i)) ≡ b → b ≡ true
         go true e = refl
         go false e =
-            let c : get_or (links_of nodes n) i 0 ≡ 65535 = links-at i l ∙ sym (link_invalid (node_at_of nodes i) false (sym e) refl) in
+            let c : get_or (links_of nodes n) i 0 ≡ 65535 = links_at i l ∙ sym (link_invalid (node_at_of nodes i) false (sym e) refl) in
             absurd
             (⊎_elim (λ (z : get_or (links_of nodes n) i 0 ≡ 0). omega (arith, c, z))
             (λ (p : Parent s (get_or (links_of nodes n) i 0) i). omega (arith, c, p.first))
             (link_parts s (get_or (links_of nodes n) i 0) i
-            (all_below_at 513 i (λ j. link_holds s (get_or (links_of nodes n) j 0) j) (linked-links (links_of nodes n) s h) (omega arith))))
+            (all_below_at 513 i (λ j. link_holds s (get_or (links_of nodes n) j 0) j) (linked_links (links_of nodes n) s h) (omega arith))))

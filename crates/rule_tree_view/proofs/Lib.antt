@@ -2,9 +2,6 @@ pub mod Answered
 pub mod Gathering
 pub mod Held
 pub mod Lent
-pub mod LinkArray
-pub mod NodeArray
-pub mod NodeParts
 pub mod OneLeaf
 pub mod Parents
 pub mod Sizes

@@ -1,6 +1,6 @@
 -- A slice of one leaf with a valid action: the view of leaf 0 with another valid action gives that action at every point of the root cube, whatever the
 -- box's upper ends. Assumes nothing.
-use mathlib.Core.Path.{◌≡◌, refl, ◌∙◌}
+use mathlib.Core.Path.{◌≡◌, ◌∙◌}
 use mathlib.Core.Bool.{true}
 use mathlib.Core.List.{[], ◌∷◌}
 use lib.Dec.{T}
@@ -22,7 +22,7 @@ use Rattle.rule_tree.specs.Calls.{found_in, replaced_of}
 use Rattle.rule_tree.proofs.Plain.{PointFits, ends_admitted_lem}
 use Rattle.rule_tree.proofs.Changing.{fresh_length, fresh_grown}
 use Rattle.rule_tree_view.specs.View.{view_of}
-use Rattle.rule_tree_view.proofs.Viewed.{view-grown}
+use Rattle.rule_tree_view.proofs.Viewed.{view_grown}
 
 above_zero : (x : Float) → T (le least_end x) → lt zero x ≡ true
 unfolding lt
@@ -35,15 +35,15 @@ module _ (ends : Point) (f : PointFits ends) (h : ends_hold ends ≡ true) (b a 
   grown : grown_of t ≡ true
   grown = fresh_grown ends b vb h
 
-  pub one-leaf : (p : Point) → contains_of (root_of ends) p ≡ true → view_of (leaf_with b ∷ []) ends 0 a p ≡ Found a
+  pub one_leaf : (p : Point) → contains_of (root_of ends) p ≡ true → view_of (leaf_with b ∷ []) ends 0 a p ≡ Found a
   unfolding replaced_of found_in descend
-  one-leaf p i = view-grown t (fresh_length ends b) grown f 0 a p ∙ rw (grown, va, i)
+  one_leaf p i = view_grown t (fresh_length ends b) grown f 0 a p ∙ rw (grown, va, i)
 
-  zero-inside : contains_of (root_of ends) (point_of zero zero zero) ≡ true
+  zero_inside : contains_of (root_of ends) (point_of zero zero zero) ≡ true
   unfolding contains_of le
-  zero-inside =
+  zero_inside =
       let low = ends_from_one ends (ends_admitted_lem ends h) in
       rw (above_zero (ack ends) low.0, above_zero (send ends) low.1.0, above_zero (ratio ends) low.1.1)
 
-  pub one-leaf-at-zero : view_of (leaf_with b ∷ []) ends 0 a (point_of zero zero zero) ≡ Found a
-  one-leaf-at-zero = one-leaf (point_of zero zero zero) zero-inside
+  pub one_leaf_at_zero : view_of (leaf_with b ∷ []) ends 0 a (point_of zero zero zero) ≡ Found a
+  one_leaf_at_zero = one_leaf (point_of zero zero zero) zero_inside

@@ -55,57 +55,57 @@ module _ (t : RuleTree) (full : length t.nodes ≡ 513) (g : grown_of t ≡ true
   abbrev early : ℕ → ℕ → Bool
   early s i = not (eqb (kids i) 0) && ltb (kids i) (node_count s)
 
-  early-leaf : (s i : ℕ) → kids i ≡ 0 → early s i ≡ false
-  early-leaf s i z = rw (eq-eqb (kids i) 0 z)
+  early_leaf : (s i : ℕ) → kids i ≡ 0 → early s i ≡ false
+  early_leaf s i z = rw (eq-eqb (kids i) 0 z)
 
-  early-before : (s i : ℕ) → (kids i ≡ 0 → ⊥) → kids i < node_count s → early s i ≡ true
-  early-before s i n l = rw (ne_eqb (kids i) 0 n, lt-ltb (kids i) (node_count s) l)
+  early_before : (s i : ℕ) → (kids i ≡ 0 → ⊥) → kids i < node_count s → early s i ≡ true
+  early_before s i n l = rw (ne_eqb (kids i) 0 n, lt-ltb (kids i) (node_count s) l)
 
-  early-after : (s i : ℕ) → node_count s ≤ kids i → early s i ≡ false
-  early-after s i l =
+  early_after : (s i : ℕ) → node_count s ≤ kids i → early s i ≡ false
+  early_after s i l =
       rw (ne_eqb (kids i) 0 (λ z. omega (arith, z)), le-ltb (kids i) (node_count s) l)
 
   -- no other parent than the owner of split s comes in with it
-  early-same : (s i : ℕ) → i < 513 → (kids i ≡ 8 * s + 1 → ⊥) → early (suc s) i ≡ early s i
-  early-same s i l n =
-      ⊎_elim (λ (z : kids i ≡ 0). early-leaf (suc s) i z ∙ sym (early-leaf s i z))
+  early_same : (s i : ℕ) → i < 513 → (kids i ≡ 8 * s + 1 → ⊥) → early (suc s) i ≡ early s i
+  early_same s i l n =
+      ⊎_elim (λ (z : kids i ≡ 0). early_leaf (suc s) i z ∙ sym (early_leaf s i z))
       (λ (p : kids i ≡ 0 → ⊥).
       let e = children_at t.nodes i in
-      let h = links.grown-link t g i l (λ z. p (sym e ∙ z)) in
+      let h = links.grown_link t g i l (λ z. p (sym e ∙ z)) in
       ⊎_elim
-      (λ (b : kids i < node_count s). early-before (suc s) i p (omega arith) ∙ sym (early-before s i p b))
+      (λ (b : kids i < node_count s). early_before (suc s) i p (omega arith) ∙ sym (early_before s i p b))
       (λ (b : node_count s ≤ kids i).
-      early-after (suc s) i (⊎_elim (λ (c : kids i < node_count (suc s)). absurd (n (omega (arith, h.first, e)))) (λ (c : node_count (suc s) ≤ kids i). c) (below_or_not (kids i) (node_count (suc s))))
-      ∙ sym (early-after s i b))
+      early_after (suc s) i (⊎_elim (λ (c : kids i < node_count (suc s)). absurd (n (omega (arith, h.first, e)))) (λ (c : node_count (suc s) ≤ kids i). c) (below_or_not (kids i) (node_count (suc s))))
+      ∙ sym (early_after s i b))
       (below_or_not (kids i) (node_count s)))
       (same_or_not (kids i) 0)
 
-  early-count : (s : ℕ) → s ≤ t.splits → count_below 513 (early s) ≡ s
-  early-count zero l =
+  early_count : (s : ℕ) → s ≤ t.splits → count_below 513 (early s) ≡ s
+  early_count zero l =
       count_never 513 (early zero) (λ i b.
-      ⊎_elim (λ (z : kids i ≡ 0). early-leaf zero i z) (λ (p : kids i ≡ 0 → ⊥). early-after zero i (positive (kids i) p)) (same_or_not (kids i) 0))
+      ⊎_elim (λ (z : kids i ≡ 0). early_leaf zero i z) (λ (p : kids i ≡ 0 → ⊥). early_after zero i (positive (kids i) p)) (same_or_not (kids i) 0))
     where
       positive : (k : ℕ) → (k ≡ 0 → ⊥) → 1 ≤ k
       positive zero p = absurd (p refl)
       positive (suc k) p = omega arith
-  early-count (suc s) l =
-      let o = links.grown-owner t g full s (omega arith) in
-      let few = links.grown-splits t g in
+  early_count (suc s) l =
+      let o = links.grown_owner t g full s (omega arith) in
+      let few = links.grown_splits t g in
       let k : kids o.at ≡ 8 * s + 1 = sym (children_at t.nodes o.at) ∙ o.is in
       count_one_more 513 (early (suc s)) (early s) o.at (omega (arith, o.low))
-      (early-before (suc s) o.at (λ z. omega (arith, z, k)) (omega (arith, k)))
-      (early-after s o.at (omega (arith, k)))
-      (λ i b n. early-same s i b (λ e. n (o.only i (children_at t.nodes i ∙ e))))
-      ∙ ap suc (early-count s (omega arith))
+      (early_before (suc s) o.at (λ z. omega (arith, z, k)) (omega (arith, k)))
+      (early_after s o.at (omega (arith, k)))
+      (λ i b n. early_same s i b (λ e. n (o.only i (children_at t.nodes i ∙ e))))
+      ∙ ap suc (early_count s (omega arith))
 
-  pub parents-splits : count_below 513 (λ i. not (is_leaf_of t.nodes i)) ≡ t.splits
-  parents-splits = count_same 513 (λ i. not (is_leaf_of t.nodes i)) (early t.splits) every ∙ early-count t.splits (omega arith)
+  pub parents_splits : count_below 513 (λ i. not (is_leaf_of t.nodes i)) ≡ t.splits
+  parents_splits = count_same 513 (λ i. not (is_leaf_of t.nodes i)) (early t.splits) every ∙ early_count t.splits (omega arith)
     where
       every : (i : ℕ) → i < 513 → not (is_leaf_of t.nodes i) ≡ early t.splits i
       every i l =
-          ⊎_elim (λ (z : kids i ≡ 0). ap not (eq-eqb (kids i) 0 z) ∙ sym (early-leaf t.splits i z))
+          ⊎_elim (λ (z : kids i ≡ 0). ap not (eq-eqb (kids i) 0 z) ∙ sym (early_leaf t.splits i z))
           (λ (p : kids i ≡ 0 → ⊥).
           let e = children_at t.nodes i in
-          let h = links.grown-link t g i l (λ z. p (sym e ∙ z)) in
-          ap not (ne_eqb (kids i) 0 p) ∙ sym (early-before t.splits i p (omega (arith, h.inside, e))))
+          let h = links.grown_link t g i l (λ z. p (sym e ∙ z)) in
+          ap not (ne_eqb (kids i) 0 p) ∙ sym (early_before t.splits i p (omega (arith, h.inside, e))))
           (same_or_not (kids i) 0)

@@ -19,7 +19,7 @@ use Rattle.rule_tree.specs.Walk.{walk_of, Walkable}
 use Rattle.rule_tree.proofs.Lists.{all_below_at, all_below_all}
 use Rattle.rule_tree.proofs.Links.{link_more}
 use Rattle.rule_tree.proofs.Plain.{PointFits, ends_whole}
-use Rattle.rule_tree.proofs.Walking.{linked-few, linked-links}
+use Rattle.rule_tree.proofs.Walking.{linked_few, linked_links}
 use Rattle.rule_tree_view.specs.declared.Told.TheVariants.{At, Known}
 use Rattle.rule_tree_view.specs.View.{linked_parents, leaf_among, reached_of, told_of}
 
@@ -31,7 +31,7 @@ pub linked_walkable : (cs : List ℕ) (s : ℕ) → linked_of cs s ≡ true → 
 linked_walkable cs s h =
     subst T
     (sym (all_below_all 513 (λ i. link_holds 64 (get_or cs i 0) i)
-    (λ i l. link_more s 64 (get_or cs i 0) i (linked-few cs s h) (all_below_at 513 i (λ j. link_holds s (get_or cs j 0) j) (linked-links cs s h) l))))
+    (λ i l. link_more s 64 (get_or cs i 0) i (linked_few cs s h) (all_below_at 513 i (λ j. link_holds s (get_or cs j 0) j) (linked_links cs s h) l))))
     tt
 
 pub walk_ready : (cs : List ℕ) (s : ℕ) (ends : Point) (root : Cube) (p : Point) → linked_of cs s ≡ true → PointFits ends → ends_hold ends ≡ true
@@ -40,21 +40,21 @@ walk_ready cs s ends root p h f w r i = rw r (record { links = linked_walkable c
 
 module _ (cs : List ℕ) (ends : Point) (leaf : ℕ) (a : Action) (p : Point) (root : Cube) (r : root ≡ root_of ends) where
   module _ (i : contains_of (root_of ends) p ≡ true) (w : Reached) (e : w ≡ walk_of cs root p) where
-    pub reached-same : w.node ≡ leaf → Known (looked.Found a) ≡ reached_of cs ends leaf a p
+    pub reached_same : w.node ≡ leaf → Known (looked.Found a) ≡ reached_of cs ends leaf a p
     unfolding reached_of
-    reached-same q =
+    reached_same q =
         let n : (walk_of cs (root_of ends) p).node ≡ leaf = ap (λ (c : Cube). (walk_of cs c p).node) (sym r) ∙ ap (λ (z : Reached). z.node) (sym e) ∙ q in
         rw (i, eq-eqb (walk_of cs (root_of ends) p).node leaf n)
 
-    pub reached-other : (w.node ≡ leaf → ⊥) → At w.node ≡ reached_of cs ends leaf a p
+    pub reached_other : (w.node ≡ leaf → ⊥) → At w.node ≡ reached_of cs ends leaf a p
     unfolding reached_of
-    reached-other q =
+    reached_other q =
         let n : w.node ≡ (walk_of cs (root_of ends) p).node = ap (λ (z : Reached). z.node) e ∙ ap (λ (c : Cube). (walk_of cs c p).node) r in
         rw (i, ne_eqb (walk_of cs (root_of ends) p).node leaf (λ z. q (n ∙ z))) (ap At n)
 
-  pub reached-nothing : contains_of (root_of ends) p ≡ false → Known looked.Nothing ≡ reached_of cs ends leaf a p
+  pub reached_nothing : contains_of (root_of ends) p ≡ false → Known looked.Nothing ≡ reached_of cs ends leaf a p
   unfolding reached_of
-  reached-nothing i = rw i
+  reached_nothing i = rw i
 
 -- ---- what the links tell, with s for the parents that they count
 module _ (n : ℕ) (cs : List ℕ) (ends : Point) (leaf : ℕ) (a : Action) (p : Point) (s : ℕ) (c : s ≡ linked_parents cs) where
@@ -62,30 +62,30 @@ module _ (n : ℕ) (cs : List ℕ) (ends : Point) (leaf : ℕ) (a : Action) (p :
   tested k = eqb n (node_count k) && (linked_of cs k && ends_hold ends)
 
   module _ (e : n ≡ node_count s) (h : linked_of cs s ≡ true) (w : ends_hold ends ≡ true) where
-    told-tested : tested (linked_parents cs) ≡ true
-    told-tested = subst (λ (k : ℕ). tested k ≡ true) c (rw (eq-eqb n (node_count s) e, h) w)
+    told_tested : tested (linked_parents cs) ≡ true
+    told_tested = subst (λ (k : ℕ). tested k ≡ true) c (rw (eq-eqb n (node_count s) e, h) w)
 
-    pub told-leaf : leaf_among cs n leaf ≡ false → Known (looked.Refused 3) ≡ told_of n cs ends leaf a p
+    pub told_leaf : leaf_among cs n leaf ≡ false → Known (looked.Refused 3) ≡ told_of n cs ends leaf a p
     unfolding told_of
-    told-leaf l = rw (told-tested, l)
+    told_leaf l = rw (told_tested, l)
 
-    pub told-action : leaf_among cs n leaf ≡ true → valid_of a ≡ false → Known (looked.Refused 1) ≡ told_of n cs ends leaf a p
+    pub told_action : leaf_among cs n leaf ≡ true → valid_of a ≡ false → Known (looked.Refused 1) ≡ told_of n cs ends leaf a p
     unfolding told_of
-    told-action l v = rw (told-tested, l, v)
+    told_action l v = rw (told_tested, l, v)
 
-    pub told-reached : leaf_among cs n leaf ≡ true → valid_of a ≡ true → reached_of cs ends leaf a p ≡ told_of n cs ends leaf a p
+    pub told_reached : leaf_among cs n leaf ≡ true → valid_of a ≡ true → reached_of cs ends leaf a p ≡ told_of n cs ends leaf a p
     unfolding told_of
-    told-reached l v = rw (told-tested, l, v)
+    told_reached l v = rw (told_tested, l, v)
 
-  told-ten : tested (linked_parents cs) ≡ false → Known (looked.Refused 10) ≡ told_of n cs ends leaf a p
+  told_ten : tested (linked_parents cs) ≡ false → Known (looked.Refused 10) ≡ told_of n cs ends leaf a p
   unfolding told_of
-  told-ten h = rw h
+  told_ten h = rw h
 
-  pub told-long : (n ≡ node_count s → ⊥) → Known (looked.Refused 10) ≡ told_of n cs ends leaf a p
-  told-long e = told-ten (subst (λ (k : ℕ). tested k ≡ false) c (rw (ne_eqb n (node_count s) e)))
+  pub told_long : (n ≡ node_count s → ⊥) → Known (looked.Refused 10) ≡ told_of n cs ends leaf a p
+  told_long e = told_ten (subst (λ (k : ℕ). tested k ≡ false) c (rw (ne_eqb n (node_count s) e)))
 
-  pub told-loose : n ≡ node_count s → linked_of cs s ≡ false → Known (looked.Refused 10) ≡ told_of n cs ends leaf a p
-  told-loose e h = told-ten (subst (λ (k : ℕ). tested k ≡ false) c (rw (eq-eqb n (node_count s) e, h)))
+  pub told_loose : n ≡ node_count s → linked_of cs s ≡ false → Known (looked.Refused 10) ≡ told_of n cs ends leaf a p
+  told_loose e h = told_ten (subst (λ (k : ℕ). tested k ≡ false) c (rw (eq-eqb n (node_count s) e, h)))
 
-  pub told-boxless : n ≡ node_count s → linked_of cs s ≡ true → ends_hold ends ≡ false → Known (looked.Refused 10) ≡ told_of n cs ends leaf a p
-  told-boxless e h w = told-ten (subst (λ (k : ℕ). tested k ≡ false) c (rw (eq-eqb n (node_count s) e, h) w))
+  pub told_boxless : n ≡ node_count s → linked_of cs s ≡ true → ends_hold ends ≡ false → Known (looked.Refused 10) ≡ told_of n cs ends leaf a p
+  told_boxless e h w = told_ten (subst (λ (k : ℕ). tested k ≡ false) c (rw (eq-eqb n (node_count s) e, h) w))

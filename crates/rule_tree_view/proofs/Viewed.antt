@@ -20,7 +20,7 @@ use Rattle.rule_tree.specs.Nodes.{no_node, node_at_of, blank_node, children_of, 
 use Rattle.rule_tree.specs.Grown.{grown_of}
 use Rattle.rule_tree.specs.Calls.{replaced_of}
 use Rattle.rule_tree.proofs.LinkWays.{children_at, children_count}
-use Rattle.rule_tree.proofs.Links.{grown-splits, grown-valid, grown-unused-leaf}
+use Rattle.rule_tree.proofs.Links.{grown_splits, grown_valid, grown_unused_leaf}
 use Rattle.rule_tree.proofs.Plain.{PointFits}
 use Rattle.rule_tree.proofs.Owners.{below_or_not}
 use Rattle.rule_tree_laws.proofs.Sound.{TreeFits}
@@ -43,7 +43,7 @@ module _ (nodes : List Node) (ends : Point) (fits : PointFits ends) (leaf : ℕ)
       rw (eq-eqb (length nodes) (node_count (parents_in nodes)) h.long)
       (ap read h.links
       ∙ answered t nodes
-      (record { full = lent.lent-full nodes h.few; grown = h.grown; fits = fits; long = h.long; same = lent.lent-used nodes })
+      (record { full = lent.lent_full nodes h.few; grown = h.grown; fits = fits; long = h.long; same = lent.lent_used nodes })
       leaf a p)
 
   refused : held.tested nodes ends ≡ false → looked.Refused 10 ≡ view_of nodes ends leaf a p
@@ -56,14 +56,14 @@ module _ (nodes : List Node) (ends : Point) (fits : PointFits ends) (leaf : ℕ)
       go : (b : Bool) → eqb (length nodes) (node_count (parents_in nodes)) ≡ b → (g : Bool) → grown_of t ≡ g → looked.Refused 10 ≡ view_of nodes ends leaf a p
       go false e g x = rw e
       go true e false x = rw (e, x)
-      go true e true x = absurd (no (held.tested nodes ends) (held.held-tested nodes ends (held.grown-held nodes ends (eqb-true _ _ e) x)) f)
+      go true e true x = absurd (no (held.tested nodes ends) (held.held_tested nodes ends (held.grown_held nodes ends (eqb-true _ _ e) x)) f)
 
-  pub answer-viewed : read (held.gathered nodes) ≡ view_of nodes ends leaf a p
+  pub answer_viewed : read (held.gathered nodes) ≡ view_of nodes ends leaf a p
   unfolding told_of answer_of
-  answer-viewed = go (held.tested nodes ends) refl
+  answer_viewed = go (held.tested nodes ends) refl
     where
       go : (b : Bool) → held.tested nodes ends ≡ b → read (held.gathered nodes) ≡ view_of nodes ends leaf a p
-      go true e = taken (held.tested-held nodes ends e)
+      go true e = taken (held.tested_held nodes ends e)
       go false e = rw e (refused e)
 
 -- ---- the nodes that a grown tree uses
@@ -72,41 +72,41 @@ module _ (t : RuleTree) (full : length t.nodes ≡ 513) (g : grown_of t ≡ true
   used = take (node_count t.splits) t.nodes
 
   long : length used ≡ node_count t.splits
-  long = length-take-le (node_count t.splits) t.nodes (omega (arith, full, grown-splits t g))
+  long = length-take-le (node_count t.splits) t.nodes (omega (arith, full, grown_splits t g))
 
   few : length used ≤ 513
-  few = omega (arith, long, grown-splits t g)
+  few = omega (arith, long, grown_splits t g)
 
   same : (i : ℕ) → i < length used → node_at_of t.nodes i ≡ node_at_of used i
   same i l = sym (get_or-take (node_count t.splits) t.nodes i no_node (omega (arith, long)))
 
   -- the tree of these nodes has the tree's links
-  links-same : children_of (lent_nodes used) ≡ children_of t.nodes
-  links-same =
-      let n : length (children_of (lent_nodes used)) ≡ 513 = children_count (lent_nodes used) ∙ lent.lent-full used few in
+  links_same : children_of (lent_nodes used) ≡ children_of t.nodes
+  links_same =
+      let n : length (children_of (lent_nodes used)) ≡ 513 = children_count (lent_nodes used) ∙ lent.lent_full used few in
       ext_get_or 0 (children_of (lent_nodes used)) (children_of t.nodes) (n ∙ sym (children_count t.nodes ∙ full))
       (λ i b.
       children_at (lent_nodes used) i
-      ∙ ⊎_elim (λ (l : i < length used). ap (λ (x : Node). x.children) (lent.lent-used used i l ∙ sym (same i l)))
+      ∙ ⊎_elim (λ (l : i < length used). ap (λ (x : Node). x.children) (lent.lent_used used i l ∙ sym (same i l)))
       (λ (l : length used ≤ i).
       let m : i < 513 = omega (arith, b, n) in
-      ap (λ (x : Node). x.children) (lent.lent-blank used i l m) ∙ sym (grown-unused-leaf t g i (omega (arith, l, long)) m))
+      ap (λ (x : Node). x.children) (lent.lent_blank used i l m) ∙ sym (grown_unused_leaf t g i (omega (arith, l, long)) m))
       (below_or_not i (length used))
       ∙ sym (children_at t.nodes i))
 
-  links-gathered : held.gathered used ≡ children_of t.nodes
-  links-gathered =
+  links_gathered : held.gathered used ≡ children_of t.nodes
+  links_gathered =
       sym (held.counted used few)
-      ∙ lent.links-all used few (λ i l. ap (λ (x : Node). valid_of (action_in x)) (sym (same i l)) ∙ grown-valid t g i (omega (arith, l, long)))
-      ∙ links-same
+      ∙ lent.links_all used few (λ i l. ap (λ (x : Node). valid_of (action_in x)) (sym (same i l)) ∙ grown_valid t g i (omega (arith, l, long)))
+      ∙ links_same
 
-  pub view-grown : (leaf : ℕ) (a : Action) (p : Point) → view_of used t.ends leaf a p ≡ replaced_in t leaf a p
-  view-grown leaf a p =
-      sym (answer-viewed used t.ends f leaf a p)
-      ∙ ap (λ (cs : List ℕ). let w = told_of (length used) cs t.ends leaf a p in answer_of w (get_or used (place_of_point w) blank_node)) links-gathered
+  pub view_grown : (leaf : ℕ) (a : Action) (p : Point) → view_of used t.ends leaf a p ≡ replaced_in t leaf a p
+  view_grown leaf a p =
+      sym (answer_viewed used t.ends f leaf a p)
+      ∙ ap (λ (cs : List ℕ). let w = told_of (length used) cs t.ends leaf a p in answer_of w (get_or used (place_of_point w) blank_node)) links_gathered
       ∙ answered t used (record { full = full; grown = g; fits = f; long = long; same = same }) leaf a p
 
 -- of every grown tree that a program holds
 pub view_held : (t : RuleTree) → TreeFits t → grown_of t ≡ true
     → (leaf : ℕ) (a : Action) (p : Point) → view_of (take (node_count t.splits) t.nodes) t.ends leaf a p ≡ replaced_in t leaf a p
-view_held t f g = view-grown t f.full g f.ends
+view_held t f g = view_grown t f.full g f.ends

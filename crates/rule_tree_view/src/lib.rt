@@ -1,4 +1,6 @@
 // The tree with one leaf's action replaced, seen through a lent slice of its nodes, with the upper ends of its box.
+#![tactic(auto)]
+
 ghost use Rattle.std.specs.Prelude.{◌≡◌, true, ◌≤◌, min, length, get_or, take, replicate};
 ghost use Rattle.rule_tree.specs.Nodes.{blank_node};
 ghost use Rattle.rule_tree.specs.Grown.{linked_of, ends_hold};
@@ -9,7 +11,7 @@ use remy::cube::Cube;
 use remy::point::Point;
 use rule_tree::{Looked, Node, RuleTree};
 
-#[derive(Drop)]
+#[derive(Clone, Copy)]
 pub struct AugmentedView<'a> {
     pub nodes: &'a [Node],
     pub ends: Point,
@@ -18,7 +20,7 @@ pub struct AugmentedView<'a> {
 }
 
 // What the links tell of a lookup: the node whose action is the answer, or the answer.
-#[derive(Drop)]
+#[derive(Clone, Copy)]
 enum Told {
     At(u16),
     Known(Looked),

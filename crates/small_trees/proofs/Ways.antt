@@ -54,68 +54,68 @@ one_next n r e l z w = e ∙ one_after n l z w
 
 -- ---- after_two
 module _ (n a : ℕ) where
-  pub two-short : n < 2 → Refused no_split_list ≡ next_of n (0 ∷ a ∷ [])
-  two-short l = refused n (0 ∷ a ∷ []) (λ h. absurd (let q = growth_short n (0 ∷ a ∷ []) h in omega arith))
+  pub two_short : n < 2 → Refused no_split_list ≡ next_of n (0 ∷ a ∷ [])
+  two_short l = refused n (0 ∷ a ∷ []) (λ h. absurd (let q = growth_short n (0 ∷ a ∷ []) h in omega arith))
 
-  pub two-low : a < 1 → Refused no_split_list ≡ next_of n (0 ∷ a ∷ [])
-  two-low l = refused n (0 ∷ a ∷ []) (λ h. absurd (omega (arith, (growth_second n a [] h).low)))
+  pub two_low : a < 1 → Refused no_split_list ≡ next_of n (0 ∷ a ∷ [])
+  two_low l = refused n (0 ∷ a ∷ []) (λ h. absurd (omega (arith, (growth_second n a [] h).low)))
 
-  pub two-high : 8 ≤ a → (a ≡ 8 → ⊥) → Refused no_split_list ≡ next_of n (0 ∷ a ∷ [])
-  two-high l z = refused n (0 ∷ a ∷ []) (λ h. absurd (omega (arith, z, (growth_second n a [] h).high)))
+  pub two_high : 8 ≤ a → (a ≡ 8 → ⊥) → Refused no_split_list ≡ next_of n (0 ∷ a ∷ [])
+  two_high l z = refused n (0 ∷ a ∷ []) (λ h. absurd (omega (arith, z, (growth_second n a [] h).high)))
 
   two_is : n ≤ 3 → 2 ≤ n → 1 ≤ a → a < 9 → next_of n (0 ∷ a ∷ []) ≡ two_next n a
   two_is l m p q = next_two n a (omega arith) q (second_grows n a m (record { low = p; high = q }))
 
-  pub two-next : (r : After) → r ≡ list_of 2 (a + 1) 0 → n ≤ 3 → 2 ≤ n → 1 ≤ a → a < 8 → r ≡ next_of n (0 ∷ a ∷ [])
-  two-next r e l m p q = e ∙ sym (two_is l m p (omega arith) ∙ rw (lt-ltb a 8 q))
+  pub two_next_lem : (r : After) → r ≡ list_of 2 (a + 1) 0 → n ≤ 3 → 2 ≤ n → 1 ≤ a → a < 8 → r ≡ next_of n (0 ∷ a ∷ [])
+  two_next_lem r e l m p q = e ∙ sym (two_is l m p (omega arith) ∙ rw (lt-ltb a 8 q))
 
-  pub two-last : n ≤ 3 → 2 ≤ n → a ≡ 8 → n ≡ 2 → Last ≡ next_of n (0 ∷ a ∷ [])
-  two-last l m p q = sym (two_is l m (omega arith) (omega arith) ∙ rw (le-ltb a 8 (omega arith), eq-eqb n 2 q))
+  pub two_last : n ≤ 3 → 2 ≤ n → a ≡ 8 → n ≡ 2 → Last ≡ next_of n (0 ∷ a ∷ [])
+  two_last l m p q = sym (two_is l m (omega arith) (omega arith) ∙ rw (le-ltb a 8 (omega arith), eq-eqb n 2 q))
 
-  pub two-over : (r : After) → r ≡ list_of 3 1 2 → n ≤ 3 → 2 ≤ n → a ≡ 8 → (n ≡ 2 → ⊥) → r ≡ next_of n (0 ∷ a ∷ [])
-  two-over r e l m p q = e ∙ sym (two_is l m (omega arith) (omega arith) ∙ rw (le-ltb a 8 (omega arith), ne_eqb n 2 q))
+  pub two_over : (r : After) → r ≡ list_of 3 1 2 → n ≤ 3 → 2 ≤ n → a ≡ 8 → (n ≡ 2 → ⊥) → r ≡ next_of n (0 ∷ a ∷ [])
+  two_over r e l m p q = e ∙ sym (two_is l m (omega arith) (omega arith) ∙ rw (le-ltb a 8 (omega arith), ne_eqb n 2 q))
 
 -- ---- after_leaf
 module _ (a b : ℕ) (h : (1 ≤ a) × (a ≤ 8) × (1 ≤ b) × (b ≤ 16) × (a ≡ b → ⊥)) where
-  leaf-is : next_of 3 (0 ∷ a ∷ b ∷ []) ≡ leaf_next a b
-  leaf-is =
+  leaf_is : next_of 3 (0 ∷ a ∷ b ∷ []) ≡ leaf_next a b
+  leaf_is =
       next_three a b (omega arith) (omega arith)
       (third_grows 3 a b (omega arith) (record { low = h.0; high = omega arith }) (record { low = h.2; high = omega arith; apart = h.4 }))
 
-  pub leaf-over : (r : After) → r ≡ list_of 3 a (b + 2) → b + 1 ≡ a → r ≡ next_of 3 (0 ∷ a ∷ b ∷ [])
-  leaf-over r e q = e ∙ sym (leaf-is ∙ rw (eq-eqb (b + 1) a q))
+  pub leaf_over : (r : After) → r ≡ list_of 3 a (b + 2) → b + 1 ≡ a → r ≡ next_of 3 (0 ∷ a ∷ b ∷ [])
+  leaf_over r e q = e ∙ sym (leaf_is ∙ rw (eq-eqb (b + 1) a q))
 
-  pub leaf-next : (r : After) → r ≡ list_of 3 a (b + 1) → (b + 1 ≡ a → ⊥) → b < 16 → r ≡ next_of 3 (0 ∷ a ∷ b ∷ [])
-  leaf-next r e q l = e ∙ sym (leaf-is ∙ rw (ne_eqb (b + 1) a q, lt-ltb b 16 l))
+  pub leaf_next_lem : (r : After) → r ≡ list_of 3 a (b + 1) → (b + 1 ≡ a → ⊥) → b < 16 → r ≡ next_of 3 (0 ∷ a ∷ b ∷ [])
+  leaf_next_lem r e q l = e ∙ sym (leaf_is ∙ rw (ne_eqb (b + 1) a q, lt-ltb b 16 l))
 
-  pub leaf-row : (r : After) → r ≡ list_of 3 (a + 1) 1 → (b + 1 ≡ a → ⊥) → 16 ≤ b → a < 8 → r ≡ next_of 3 (0 ∷ a ∷ b ∷ [])
-  leaf-row r e q l m = e ∙ sym (leaf-is ∙ rw (ne_eqb (b + 1) a q, le-ltb b 16 l, lt-ltb a 8 m))
+  pub leaf_row : (r : After) → r ≡ list_of 3 (a + 1) 1 → (b + 1 ≡ a → ⊥) → 16 ≤ b → a < 8 → r ≡ next_of 3 (0 ∷ a ∷ b ∷ [])
+  leaf_row r e q l m = e ∙ sym (leaf_is ∙ rw (ne_eqb (b + 1) a q, le-ltb b 16 l, lt-ltb a 8 m))
 
   pub leaf_last : (b + 1 ≡ a → ⊥) → 16 ≤ b → 8 ≤ a → Last ≡ next_of 3 (0 ∷ a ∷ b ∷ [])
-  leaf_last q l m = sym (leaf-is ∙ rw (ne_eqb (b + 1) a q, le-ltb b 16 l, le-ltb a 8 m))
+  leaf_last q l m = sym (leaf_is ∙ rw (ne_eqb (b + 1) a q, le-ltb b 16 l, le-ltb a 8 m))
 
 -- ---- after_three
 module _ (n a b : ℕ) where
-  pub three-short : n < 3 → Refused no_split_list ≡ next_of n (0 ∷ a ∷ b ∷ [])
-  three-short l = refused n (0 ∷ a ∷ b ∷ []) (λ h. absurd (let q = growth_short n (0 ∷ a ∷ b ∷ []) h in omega arith))
+  pub three_short : n < 3 → Refused no_split_list ≡ next_of n (0 ∷ a ∷ b ∷ [])
+  three_short l = refused n (0 ∷ a ∷ b ∷ []) (λ h. absurd (let q = growth_short n (0 ∷ a ∷ b ∷ []) h in omega arith))
 
-  pub three-twice : a ≡ b → Refused no_split_list ≡ next_of n (0 ∷ a ∷ b ∷ [])
-  three-twice e = refused n (0 ∷ a ∷ b ∷ []) (λ h. (growth_third n a b [] h).apart e)
+  pub three_twice : a ≡ b → Refused no_split_list ≡ next_of n (0 ∷ a ∷ b ∷ [])
+  three_twice e = refused n (0 ∷ a ∷ b ∷ []) (λ h. (growth_third n a b [] h).apart e)
 
-  pub three-first-low : a < 1 → Refused no_split_list ≡ next_of n (0 ∷ a ∷ b ∷ [])
-  three-first-low l = refused n (0 ∷ a ∷ b ∷ []) (λ h. absurd (omega (arith, (growth_second n a (b ∷ []) h).low)))
+  pub three_first_low : a < 1 → Refused no_split_list ≡ next_of n (0 ∷ a ∷ b ∷ [])
+  three_first_low l = refused n (0 ∷ a ∷ b ∷ []) (λ h. absurd (omega (arith, (growth_second n a (b ∷ []) h).low)))
 
-  pub three-first-high : 8 < a → Refused no_split_list ≡ next_of n (0 ∷ a ∷ b ∷ [])
-  three-first-high l = refused n (0 ∷ a ∷ b ∷ []) (λ h. absurd (omega (arith, (growth_second n a (b ∷ []) h).high)))
+  pub three_first_high : 8 < a → Refused no_split_list ≡ next_of n (0 ∷ a ∷ b ∷ [])
+  three_first_high l = refused n (0 ∷ a ∷ b ∷ []) (λ h. absurd (omega (arith, (growth_second n a (b ∷ []) h).high)))
 
-  pub three-low : b < 1 → Refused no_split_list ≡ next_of n (0 ∷ a ∷ b ∷ [])
-  three-low l = refused n (0 ∷ a ∷ b ∷ []) (λ h. absurd (omega (arith, (growth_third n a b [] h).low)))
+  pub three_low : b < 1 → Refused no_split_list ≡ next_of n (0 ∷ a ∷ b ∷ [])
+  three_low l = refused n (0 ∷ a ∷ b ∷ []) (λ h. absurd (omega (arith, (growth_third n a b [] h).low)))
 
-  pub three-high : 16 < b → Refused no_split_list ≡ next_of n (0 ∷ a ∷ b ∷ [])
-  three-high l = refused n (0 ∷ a ∷ b ∷ []) (λ h. absurd (omega (arith, (growth_third n a b [] h).high)))
+  pub three_high : 16 < b → Refused no_split_list ≡ next_of n (0 ∷ a ∷ b ∷ [])
+  three_high l = refused n (0 ∷ a ∷ b ∷ []) (λ h. absurd (omega (arith, (growth_third n a b [] h).high)))
 
-  pub three-is : (r : After) → r ≡ next_of 3 (0 ∷ a ∷ b ∷ []) → n ≤ 3 → 3 ≤ n → r ≡ next_of n (0 ∷ a ∷ b ∷ [])
-  three-is r e l m = let p : 3 ≡ n = omega arith in subst (λ (k : ℕ). r ≡ next_of k (0 ∷ a ∷ b ∷ [])) p e
+  pub three_is : (r : After) → r ≡ next_of 3 (0 ∷ a ∷ b ∷ []) → n ≤ 3 → 3 ≤ n → r ≡ next_of n (0 ∷ a ∷ b ∷ [])
+  three_is r e l m = let p : 3 ≡ n = omega arith in subst (λ (k : ℕ). r ≡ next_of k (0 ∷ a ∷ b ∷ [])) p e
 
 -- ---- next
 none_list : (xs : List ℕ) → length xs ≡ 0 → xs ≡ []
@@ -141,11 +141,11 @@ module _ (n : ℕ) (xs : List ℕ) (r : After) where
   pub list_one : length xs ≡ 1 → get_or xs 0 0 ≡ 0 → r ≡ next_of n (0 ∷ []) → r ≡ next_of n xs
   list_one l z e = e ∙ ap (next_of n) (ap (λ (x : ℕ). x ∷ []) (sym z) ∙ sym (one_list xs l))
 
-  pub list-two : length xs ≡ 2 → get_or xs 0 0 ≡ 0 → r ≡ next_of n (0 ∷ get_or xs 1 0 ∷ []) → r ≡ next_of n xs
-  list-two l z e = e ∙ ap (next_of n) (ap (λ (x : ℕ). x ∷ get_or xs 1 0 ∷ []) (sym z) ∙ sym (two_list xs l))
+  pub list_two : length xs ≡ 2 → get_or xs 0 0 ≡ 0 → r ≡ next_of n (0 ∷ get_or xs 1 0 ∷ []) → r ≡ next_of n xs
+  list_two l z e = e ∙ ap (next_of n) (ap (λ (x : ℕ). x ∷ get_or xs 1 0 ∷ []) (sym z) ∙ sym (two_list xs l))
 
-  pub list-three : length xs ≡ 3 → get_or xs 0 0 ≡ 0 → r ≡ next_of n (0 ∷ get_or xs 1 0 ∷ get_or xs 2 0 ∷ []) → r ≡ next_of n xs
-  list-three l z e = e ∙ ap (next_of n) (ap (λ (x : ℕ). x ∷ get_or xs 1 0 ∷ get_or xs 2 0 ∷ []) (sym z) ∙ sym (three_list xs l))
+  pub list_three : length xs ≡ 3 → get_or xs 0 0 ≡ 0 → r ≡ next_of n (0 ∷ get_or xs 1 0 ∷ get_or xs 2 0 ∷ []) → r ≡ next_of n xs
+  list_three l z e = e ∙ ap (next_of n) (ap (λ (x : ℕ). x ∷ get_or xs 1 0 ∷ get_or xs 2 0 ∷ []) (sym z) ∙ sym (three_list xs l))
 
 four_up : (m : ℕ) → (m ≡ 0 → ⊥) → (m ≡ 1 → ⊥) → (m ≡ 2 → ⊥) → (m ≡ 3 → ⊥) → 4 ≤ m
 four_up zero p q r s = absurd (p refl)

@@ -1,5 +1,5 @@
 -- 02, request 14: "A call takes one list and gives the next, or says that it was the last."
-use Rattle.std.specs.Prelude.{Bool, true, false, ◌&&◌, ◌||◌, cond, List, [], ◌∷◌, ℕ, length, get_or, take, leb}
+use Rattle.std.specs.Prelude.{Bool, false, ◌&&◌, ◌||◌, cond, List, [], ◌∷◌, ℕ, length, get_or, take, leb}
 use Rattle.refusal.specs.Numbers.{no_split_list}
 use Rattle.refusal.specs.Guards.{Test, test, guarded}
 use Rattle.small_trees.specs.declared.SplitList.{SplitList}

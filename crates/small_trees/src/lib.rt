@@ -1,4 +1,6 @@
 // Every small tree in turn: the lists of at most three splits, shorter first and then by their node numbers.
+#![tactic(auto)]
+
 ghost use Rattle.std.specs.Prelude.{◌≡◌, [], ◌∷◌, ◌≤◌};
 ghost use Rattle.small_trees.specs.Calls.{next_of, list_of};
 
@@ -6,7 +8,7 @@ ghost use Rattle.small_trees.specs.Calls.{next_of, list_of};
 pub const MOST_LISTED: u32 = 3;
 
 // The first count of the three are the list, the others are 0.
-#[derive(Drop)]
+#[derive(Clone, Copy)]
 pub struct SplitList {
     pub count: u16,
     pub first: u16,
@@ -15,7 +17,7 @@ pub struct SplitList {
 }
 
 // What comes after a list.
-#[derive(Drop)]
+#[derive(Clone, Copy)]
 pub enum After {
     Next(SplitList),
     Last,

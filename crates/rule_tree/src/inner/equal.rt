@@ -40,7 +40,7 @@ const PARTS: usize = 3 * NODES;
 const LAST_EIGHT: u16 = MOST_NODES - 8;
 
 // A node and a cube.
-#[derive(Drop)]
+#[derive(Clone, Copy)]
 struct Side {
     node: u16,
     cube: Cube,

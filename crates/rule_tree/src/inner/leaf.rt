@@ -7,7 +7,7 @@ use remy::cube::Cube;
 use remy::point::Point;
 
 // What holds a point: a leaf, or nothing where the point is outside the root's cube.
-#[derive(Drop)]
+#[derive(Clone, Copy)]
 pub enum Holder {
     Leaf(u16),
     Nothing,

@@ -15,7 +15,7 @@ use remy::cube::Cube;
 use remy::point::Point;
 
 // The leaf that a walk ends at, and how many cubes a search in order tests on the way.
-#[derive(Drop)]
+#[derive(Clone, Copy)]
 pub struct Reached {
     pub node: u16,
     pub tested: u32,
