@@ -43,27 +43,27 @@ and_same x y a b p q = rw (p, q)
 
 -- ---- the fields of no phase but 5
 module _ (best : Float) (k kept : ℕ) (score : Float) where
-  pub tried-none : (b : Bool) → zero_bits_of best ≡ true → k ≡ 0 → kept ≡ none → b ≡ zero_bits_of score → b ≡ untried_in best k kept score
+  pub tried_none : (b : Bool) → zero_bits_of best ≡ true → k ≡ 0 → kept ≡ none → b ≡ zero_bits_of score → b ≡ untried_in best k kept score
   unfolding untried_in
-  tried-none b h e n s = rw (h, eq-eqb k 0 e, eq-eqb kept none n) s
+  tried_none b h e n s = rw (h, eq-eqb k 0 e, eq-eqb kept none n) s
 
-  pub tried-kept : zero_bits_of best ≡ true → k ≡ 0 → (kept ≡ none → ⊥) → false ≡ untried_in best k kept score
+  pub tried_kept : zero_bits_of best ≡ true → k ≡ 0 → (kept ≡ none → ⊥) → false ≡ untried_in best k kept score
   unfolding untried_in
-  tried-kept h e n = rw (h, eq-eqb k 0 e, ne_eqb kept none n)
+  tried_kept h e n = rw (h, eq-eqb k 0 e, ne_eqb kept none n)
 
-  pub tried-k : zero_bits_of best ≡ true → (k ≡ 0 → ⊥) → false ≡ untried_in best k kept score
+  pub tried_k : zero_bits_of best ≡ true → (k ≡ 0 → ⊥) → false ≡ untried_in best k kept score
   unfolding untried_in
-  tried-k h e = rw (h, ne_eqb k 0 e)
+  tried_k h e = rw (h, ne_eqb k 0 e)
 
-  pub tried-best : zero_bits_of best ≡ false → false ≡ untried_in best k kept score
+  pub tried_best : zero_bits_of best ≡ false → false ≡ untried_in best k kept score
   unfolding untried_in
-  tried-best h = rw h
+  tried_best h = rw h
 
-  pub idle-yes : (leaf : ℕ) (b : Bool) → leaf ≡ 0 → b ≡ untried_in best k kept score → b ≡ idle_in leaf best k kept score
-  idle-yes leaf b e s = rw (eq-eqb leaf 0 e) s
+  pub idle_yes : (leaf : ℕ) (b : Bool) → leaf ≡ 0 → b ≡ untried_in best k kept score → b ≡ idle_in leaf best k kept score
+  idle_yes leaf b e s = rw (eq-eqb leaf 0 e) s
 
-  pub idle-no : (leaf : ℕ) → (leaf ≡ 0 → ⊥) → false ≡ idle_in leaf best k kept score
-  idle-no leaf e = rw (ne_eqb leaf 0 e)
+  pub idle_no : (leaf : ℕ) → (leaf ≡ 0 → ⊥) → false ≡ idle_in leaf best k kept score
+  idle_no leaf e = rw (ne_eqb leaf 0 e)
 
   pub kept_none : (b : Bool) → kept ≡ none → b ≡ zero_bits_of score → b ≡ kept_in best k kept score
   unfolding kept_in
@@ -73,39 +73,39 @@ module _ (best : Float) (k kept : ℕ) (score : Float) where
   unfolding kept_in
   kept_some n l = rw (ne_eqb kept none n, lt-ltb kept k l)
 
-  pub kept-past : (kept ≡ none → ⊥) → k ≤ kept → false ≡ kept_in best k kept score
+  pub kept_past : (kept ≡ none → ⊥) → k ≤ kept → false ≡ kept_in best k kept score
   unfolding kept_in
-  kept-past n l = rw (ne_eqb kept none n, le-ltb kept k l)
+  kept_past n l = rw (ne_eqb kept none n, le-ltb kept k l)
 
 -- ---- stage and round
 module _ (stage splits round : ℕ) (idle : Bool) where
-  pub splitting-all : 1 ≤ stage → stage ≤ splits → round ≡ 0 → idle ≡ splitting_in stage splits round idle
+  pub splitting_all : 1 ≤ stage → stage ≤ splits → round ≡ 0 → idle ≡ splitting_in stage splits round idle
   unfolding splitting_in
-  splitting-all a b e = rw (le-leb 1 stage a, le-leb stage splits b, eq-eqb round 0 e)
+  splitting_all a b e = rw (le-leb 1 stage a, le-leb stage splits b, eq-eqb round 0 e)
 
   pub splitting_round : 1 ≤ stage → stage ≤ splits → (round ≡ 0 → ⊥) → false ≡ splitting_in stage splits round idle
   unfolding splitting_in
   splitting_round a b e = rw (le-leb 1 stage a, le-leb stage splits b, ne_eqb round 0 e)
 
-  pub splitting-high : 1 ≤ stage → splits < stage → false ≡ splitting_in stage splits round idle
+  pub splitting_high : 1 ≤ stage → splits < stage → false ≡ splitting_in stage splits round idle
   unfolding splitting_in
-  splitting-high a b = rw (le-leb 1 stage a, lt-leb stage splits b)
+  splitting_high a b = rw (le-leb 1 stage a, lt-leb stage splits b)
 
-  pub splitting-low : stage < 1 → false ≡ splitting_in stage splits round idle
+  pub splitting_low : stage < 1 → false ≡ splitting_in stage splits round idle
   unfolding splitting_in
-  splitting-low a = rw (lt-leb 1 stage a)
+  splitting_low a = rw (lt-leb 1 stage a)
 
-  pub ending-all : stage ≡ splits + 1 → round ≡ 0 → idle ≡ ending_in stage splits round idle
+  pub ending_all : stage ≡ splits + 1 → round ≡ 0 → idle ≡ ending_in stage splits round idle
   unfolding ending_in
-  ending-all a e = rw (eq-eqb stage (splits + 1) a, eq-eqb round 0 e)
+  ending_all a e = rw (eq-eqb stage (splits + 1) a, eq-eqb round 0 e)
 
-  pub ending-round : stage ≡ splits + 1 → (round ≡ 0 → ⊥) → false ≡ ending_in stage splits round idle
+  pub ending_round : stage ≡ splits + 1 → (round ≡ 0 → ⊥) → false ≡ ending_in stage splits round idle
   unfolding ending_in
-  ending-round a e = rw (eq-eqb stage (splits + 1) a, ne_eqb round 0 e)
+  ending_round a e = rw (eq-eqb stage (splits + 1) a, ne_eqb round 0 e)
 
-  pub ending-stage : (stage ≡ splits + 1 → ⊥) → false ≡ ending_in stage splits round idle
+  pub ending_stage : (stage ≡ splits + 1 → ⊥) → false ≡ ending_in stage splits round idle
   unfolding ending_in
-  ending-stage a = rw (ne_eqb stage (splits + 1) a)
+  ending_stage a = rw (ne_eqb stage (splits + 1) a)
 
 pub tuning_stage : (stage splits round rounds : ℕ) → stage ≤ splits → ltb round rounds ≡ tuning_in stage splits round rounds
 unfolding tuning_in
@@ -129,60 +129,60 @@ leaf_in_array t i b l e h = omega (arith, leaf_below t i (sym e ∙ h))
 
 -- ---- the tests of a trainer are those of its fields
 module _ (t : Trainer) where
-  pub splitting-is : splitting_in t.stage t.settings.rule_splits t.round (idle t) ≡ splitting t
+  pub splitting_is : splitting_in t.stage t.settings.rule_splits t.round (idle t) ≡ splitting t
   unfolding splitting_in splitting
-  splitting-is = refl
+  splitting_is = refl
 
-  pub tuning-is : tuning_in t.stage t.settings.rule_splits t.round t.settings.optimization_rounds_per_split ≡ tuning t
+  pub tuning_is : tuning_in t.stage t.settings.rule_splits t.round t.settings.optimization_rounds_per_split ≡ tuning t
   unfolding tuning_in tuning
-  tuning-is = refl
+  tuning_is = refl
 
-  pub ending-is : ending_in t.stage t.settings.rule_splits t.round (idle t) ≡ ending t
+  pub ending_is : ending_in t.stage t.settings.rule_splits t.round (idle t) ≡ ending t
   unfolding ending_in ending
-  ending-is = refl
+  ending_is = refl
 
-  pub leaf-is : leaf_holds_in t.tree t.leaf ≡ leaf_holds t
+  pub leaf_is : leaf_holds_in t.tree t.leaf ≡ leaf_holds t
   unfolding leaf_holds_in leaf_holds
-  leaf-is = refl
+  leaf_is = refl
 
-  pub accepted-is : accepted_of t ≡ (settings_hold t.settings && (grown_of t.tree && (box_holds t && phase_holds t)))
+  pub accepted_is : accepted_of t ≡ (settings_hold t.settings && (grown_of t.tree && (box_holds t && phase_holds t)))
   unfolding accepted_of
-  accepted-is = refl
+  accepted_is = refl
 
-  pub accepted-all : (a b e c : Bool) → a ≡ settings_hold t.settings → a ≡ true → b ≡ grown_of t.tree → b ≡ true → e ≡ box_holds t → e ≡ true
+  pub accepted_all : (a b e c : Bool) → a ≡ settings_hold t.settings → a ≡ true → b ≡ grown_of t.tree → b ≡ true → e ≡ box_holds t → e ≡ true
       → c ≡ phase_holds t → c ≡ accepted_of t
-  accepted-all a b e c ea ha eb hb ee he ec =
+  accepted_all a b e c ea ha eb hb ee he ec =
       and_yes a c (settings_hold t.settings) (grown_of t.tree && (box_holds t && phase_holds t)) ea ha
       (and_yes b c (grown_of t.tree) (box_holds t && phase_holds t) eb hb (and_yes e c (box_holds t) (phase_holds t) ee he ec))
-      ∙ sym accepted-is
+      ∙ sym accepted_is
 
-  pub accepted-boxed : (a b e : Bool) → a ≡ settings_hold t.settings → a ≡ true → b ≡ grown_of t.tree → b ≡ true → e ≡ box_holds t → e ≡ false
+  pub accepted_boxed : (a b e : Bool) → a ≡ settings_hold t.settings → a ≡ true → b ≡ grown_of t.tree → b ≡ true → e ≡ box_holds t → e ≡ false
       → false ≡ accepted_of t
-  accepted-boxed a b e ea ha eb hb ee he =
+  accepted_boxed a b e ea ha eb hb ee he =
       and_yes a false (settings_hold t.settings) (grown_of t.tree && (box_holds t && phase_holds t)) ea ha
       (and_yes b false (grown_of t.tree) (box_holds t && phase_holds t) eb hb (and_no e (box_holds t) (phase_holds t) ee he))
-      ∙ sym accepted-is
+      ∙ sym accepted_is
 
-  pub accepted-wild : (a b : Bool) → a ≡ settings_hold t.settings → a ≡ true → b ≡ grown_of t.tree → b ≡ false → false ≡ accepted_of t
-  accepted-wild a b ea ha eb hb =
+  pub accepted_wild : (a b : Bool) → a ≡ settings_hold t.settings → a ≡ true → b ≡ grown_of t.tree → b ≡ false → false ≡ accepted_of t
+  accepted_wild a b ea ha eb hb =
       and_yes a false (settings_hold t.settings) (grown_of t.tree && (box_holds t && phase_holds t)) ea ha (and_no b (grown_of t.tree) (box_holds t && phase_holds t) eb hb)
-      ∙ sym accepted-is
+      ∙ sym accepted_is
 
-  pub accepted-unset : (a : Bool) → a ≡ settings_hold t.settings → a ≡ false → false ≡ accepted_of t
-  accepted-unset a ea ha = and_no a (settings_hold t.settings) (grown_of t.tree && (box_holds t && phase_holds t)) ea ha ∙ sym accepted-is
+  pub accepted_unset : (a : Bool) → a ≡ settings_hold t.settings → a ≡ false → false ≡ accepted_of t
+  accepted_unset a ea ha = and_no a (settings_hold t.settings) (grown_of t.tree && (box_holds t && phase_holds t)) ea ha ∙ sym accepted_is
 
   -- ---- candidate k is in the list
   module _ (a : Action) (n : ℕ) (ea : a ≡ leaf_action t) (en : n ≡ length (candidates_of t.settings a)) where
-    pub count-is : n ≡ length (candidates_of t.settings (leaf_action t))
-    count-is = en ∙ ap (λ (x : Action). length (candidates_of t.settings x)) ea
+    pub count_is : n ≡ length (candidates_of t.settings (leaf_action t))
+    count_is = en ∙ ap (λ (x : Action). length (candidates_of t.settings x)) ea
 
-    pub try-listed : (b : Bool) → t.k < n → b ≡ kept_holds t → b ≡ try_holds_of t
+    pub try_listed : (b : Bool) → t.k < n → b ≡ kept_holds t → b ≡ try_holds_of t
     unfolding try_holds_of
-    try-listed b l e = rw (lt-ltb t.k (length (candidates_of t.settings (leaf_action t))) (subst (λ (m : ℕ). t.k < m) count-is l)) e
+    try_listed b l e = rw (lt-ltb t.k (length (candidates_of t.settings (leaf_action t))) (subst (λ (m : ℕ). t.k < m) count_is l)) e
 
-    pub try-past : n ≤ t.k → false ≡ try_holds_of t
+    pub try_past : n ≤ t.k → false ≡ try_holds_of t
     unfolding try_holds_of
-    try-past l = rw (le-ltb t.k (length (candidates_of t.settings (leaf_action t))) (subst (λ (m : ℕ). m ≤ t.k) count-is l))
+    try_past l = rw (le-ltb t.k (length (candidates_of t.settings (leaf_action t))) (subst (λ (m : ℕ). m ≤ t.k) count_is l))
 
 -- ---- the test of each phase, by the phase's number
 abbrev pub by_phase_lem : ℕ → Bool → Bool → Bool → Bool → Bool → Bool
@@ -203,24 +203,24 @@ above n p l e = go (leb p n) refl
     go false h = leb-false p n h
 
 module _ (p : ℕ) (a b c d e : Bool) where
-  pub phase-split : 1 ≤ p → p < 3 → a ≡ by_phase_lem p a b c d e
-  phase-split l m = go (leb p 1) refl
+  pub phase_split : 1 ≤ p → p < 3 → a ≡ by_phase_lem p a b c d e
+  phase_split l m = go (leb p 1) refl
     where
       go : (t : Bool) → leb p 1 ≡ t → a ≡ by_phase_lem p a b c d e
       go true h = let n = leb-true p 1 h in let q : p ≡ 1 = omega arith in rw q
       go false h = let n = leb-false p 1 h in let q : p ≡ 2 = omega arith in rw q
 
-  pub phase-choose : p ≡ 3 → b ≡ by_phase_lem p a b c d e
-  phase-choose q = rw q
+  pub phase_choose : p ≡ 3 → b ≡ by_phase_lem p a b c d e
+  phase_choose q = rw q
 
-  pub phase-ask : p ≡ 4 → c ≡ by_phase_lem p a b c d e
-  phase-ask q = rw q
+  pub phase_ask : p ≡ 4 → c ≡ by_phase_lem p a b c d e
+  phase_ask q = rw q
 
-  pub phase-try : p ≡ 5 → d ≡ by_phase_lem p a b c d e
-  phase-try q = rw q
+  pub phase_try : p ≡ 5 → d ≡ by_phase_lem p a b c d e
+  phase_try q = rw q
 
-  pub phase-end : 3 ≤ p → p < 8 → (p ≡ 3 → ⊥) → (p ≡ 4 → ⊥) → (p ≡ 5 → ⊥) → e ≡ by_phase_lem p a b c d e
-  phase-end l m x y z =
+  pub phase_end : 3 ≤ p → p < 8 → (p ≡ 3 → ⊥) → (p ≡ 4 → ⊥) → (p ≡ 5 → ⊥) → e ≡ by_phase_lem p a b c d e
+  phase_end l m x y z =
       let i = above 3 p l x in
       let j = above 4 p (omega arith) y in
       let k = above 5 p (omega arith) z in
@@ -230,11 +230,11 @@ module _ (p : ℕ) (a b c d e : Bool) where
       go true h k = let n = leb-true p 6 h in let q : p ≡ 6 = omega arith in rw q
       go false h k = let n = leb-false p 6 h in let q : p ≡ 7 = omega arith in rw q
 
-  pub phase-low : p < 1 → false ≡ by_phase_lem p a b c d e
-  phase-low l = let q : p ≡ 0 = omega arith in rw q
+  pub phase_low : p < 1 → false ≡ by_phase_lem p a b c d e
+  phase_low l = let q : p ≡ 0 = omega arith in rw q
 
-  pub phase-high : 8 ≤ p → false ≡ by_phase_lem p a b c d e
-  phase-high l =
+  pub phase_high : 8 ≤ p → false ≡ by_phase_lem p a b c d e
+  phase_high l =
       rw (
         ne_eqb p 1 (λ q. absurd (omega arith)),
         ne_eqb p 2 (λ q. absurd (omega arith)),

@@ -15,7 +15,7 @@ use Rattle.rule_tree.specs.Nodes.{node_at_of}
 use Rattle.rule_tree.specs.Grown.{grown_of}
 use Rattle.rule_tree.specs.Counts.{counts_hold}
 use Rattle.rule_tree.specs.Calls.{leaf_in}
-use Rattle.rule_tree.proofs.GrownTree.{grown-facts, grown-long, leaf_below, leaf-valid}
+use Rattle.rule_tree.proofs.GrownTree.{grown_facts, grown_long, leaf_below, leaf_valid}
 use Rattle.trainer.specs.declared.settings.Settings.{Settings}
 use Rattle.trainer.specs.declared.Trainer.{Trainer}
 use Rattle.trainer.specs.Settings.{numbers_hold, settings_hold}
@@ -24,7 +24,7 @@ use Rattle.trainer.specs.State.{none, zero_bits_of, kept_in, kept_holds, untried
 use Rattle.trainer.specs.Calls.{wants_score}
 use Rattle.trainer.specs.Fields.{Counting, Scoring, Kept}
 use Rattle.trainer.proofs.Holds.{and_left, and_right, parts}
-use Rattle.trainer.proofs.AcceptWays.{by_phase_lem, phase_is, accepted-is, phase-ask, phase-try}
+use Rattle.trainer.proofs.AcceptWays.{by_phase_lem, phase_is, accepted_is, phase_ask, phase_try}
 
 -- ---- settings
 numbers_parts : (s : Settings) → numbers_hold s ≡ true → (s.rule_splits ≤ 64) × (s.optimization_rounds_per_split ≤ 1000)
@@ -44,25 +44,25 @@ abbrev Bounded : Trainer → Type 0
 Bounded t = (t.stage ≤ 65) × (t.round ≤ 1000)
 
 module _ (t : Trainer) (s : settings_hold t.settings ≡ true) where
-  splitting-bounded : splitting t ≡ true → Bounded t
+  splitting_bounded : splitting t ≡ true → Bounded t
   unfolding splitting
-  splitting-bounded h =
+  splitting_bounded h =
       let i = and_right (leb 1 t.stage) _ h in
       let j = and_right (leb t.stage t.settings.rule_splits) _ i in
       let l = leb-true t.stage t.settings.rule_splits (and_left (leb t.stage t.settings.rule_splits) _ i) in
       let r = eqb-true t.round 0 (and_left (eqb t.round 0) _ j) in
       (omega (arith, few_splits t.settings s), omega arith)
 
-  tuning-bounded : tuning t ≡ true → Bounded t
+  tuning_bounded : tuning t ≡ true → Bounded t
   unfolding tuning
-  tuning-bounded h =
+  tuning_bounded h =
       let l = leb-true t.stage t.settings.rule_splits (and_left (leb t.stage t.settings.rule_splits) _ h) in
       let r = ltb-true t.round t.settings.optimization_rounds_per_split (and_right (leb t.stage t.settings.rule_splits) _ h) in
       (omega (arith, few_splits t.settings s), omega (arith, few_rounds t.settings s))
 
-  ending-bounded : ending t ≡ true → Bounded t
+  ending_bounded : ending t ≡ true → Bounded t
   unfolding ending
-  ending-bounded h =
+  ending_bounded h =
       let j = and_right (eqb t.stage (t.settings.rule_splits + 1)) _ h in
       let l = eqb-true t.stage (t.settings.rule_splits + 1) (and_left (eqb t.stage (t.settings.rule_splits + 1)) _ h) in
       let r = eqb-true t.round 0 (and_left (eqb t.round 0) _ j) in
@@ -88,10 +88,10 @@ phase_cases p a b c d e h i j k l m =
 -- ---- an accepted trainer
 module _ (t : Trainer) (h : accepted_of t ≡ true) where
   all : settings_hold t.settings && (grown_of t.tree && (box_holds t && phase_holds t)) ≡ true
-  all = sym (accepted-is t) ∙ h
+  all = sym (accepted_is t) ∙ h
 
-  pub accepted-settings : settings_hold t.settings ≡ true
-  accepted-settings = and_left (settings_hold t.settings) (grown_of t.tree && (box_holds t && phase_holds t)) all
+  pub accepted_settings : settings_hold t.settings ≡ true
+  accepted_settings = and_left (settings_hold t.settings) (grown_of t.tree && (box_holds t && phase_holds t)) all
 
   rest : grown_of t.tree && (box_holds t && phase_holds t) ≡ true
   rest = and_right (settings_hold t.settings) (grown_of t.tree && (box_holds t && phase_holds t)) all
@@ -99,51 +99,51 @@ module _ (t : Trainer) (h : accepted_of t ≡ true) where
   boxed : box_holds t && phase_holds t ≡ true
   boxed = and_right (grown_of t.tree) (box_holds t && phase_holds t) rest
 
-  pub accepted-grown : grown_of t.tree ≡ true
-  accepted-grown = and_left (grown_of t.tree) (box_holds t && phase_holds t) rest
+  pub accepted_grown : grown_of t.tree ≡ true
+  accepted_grown = and_left (grown_of t.tree) (box_holds t && phase_holds t) rest
 
-  pub accepted-box : box_holds t ≡ true
-  accepted-box = and_left (box_holds t) (phase_holds t) boxed
+  pub accepted_box : box_holds t ≡ true
+  accepted_box = and_left (box_holds t) (phase_holds t) boxed
 
-  pub accepted-phase :
+  pub accepted_phase :
       by_phase_lem t.phase (splitting t) (tuning t && idle t) (tuning t && (leaf_holds t && untried t)) (tuning t && (leaf_holds t && try_holds_of t)) (ending t)
       ≡ true
-  accepted-phase = sym (phase_is t) ∙ and_right (box_holds t) (phase_holds t) boxed
+  accepted_phase = sym (phase_is t) ∙ and_right (box_holds t) (phase_holds t) boxed
 
-  pub accepted-few : t.tree.splits ≤ 64
-  accepted-few = (grown-facts t.tree accepted-grown).few
+  pub accepted_few : t.tree.splits ≤ 64
+  accepted_few = (grown_facts t.tree accepted_grown).few
 
-  pub accepted-bounds : (t.stage ≤ 65) × (t.round ≤ 1000)
-  accepted-bounds =
-      let s = accepted-settings in
+  pub accepted_bounds : (t.stage ≤ 65) × (t.round ≤ 1000)
+  accepted_bounds =
+      let s = accepted_settings in
       phase_cases t.phase (splitting t) (tuning t && idle t) (tuning t && (leaf_holds t && untried t)) (tuning t && (leaf_holds t && try_holds_of t)) (ending t)
-      accepted-phase (splitting-bounded t s)
-      (λ q. tuning-bounded t s (and_left (tuning t) (idle t) q))
-      (λ q. tuning-bounded t s (and_left (tuning t) (leaf_holds t && untried t) q))
-      (λ q. tuning-bounded t s (and_left (tuning t) (leaf_holds t && try_holds_of t) q))
-      (ending-bounded t s)
+      accepted_phase (splitting_bounded t s)
+      (λ q. tuning_bounded t s (and_left (tuning t) (idle t) q))
+      (λ q. tuning_bounded t s (and_left (tuning t) (leaf_holds t && untried t) q))
+      (λ q. tuning_bounded t s (and_left (tuning t) (leaf_holds t && try_holds_of t) q))
+      (ending_bounded t s)
 
-  pub counting-from : (xs : List ℕ) → counts_hold t.tree xs ≡ true → Counting t xs
-  counting-from xs c = record { grown = accepted-grown; counts = c; stage = accepted-bounds.0; round = accepted-bounds.1 }
+  pub counting_from : (xs : List ℕ) → counts_hold t.tree xs ≡ true → Counting t xs
+  counting_from xs c = record { grown = accepted_grown; counts = c; stage = accepted_bounds.0; round = accepted_bounds.1 }
 
   -- phases 4 and 5
   asking : t.phase ≡ 4 → tuning t && (leaf_holds t && untried t) ≡ true
-  asking q = phase-ask t.phase _ _ (tuning t && (leaf_holds t && untried t)) _ _ q ∙ accepted-phase
+  asking q = phase_ask t.phase _ _ (tuning t && (leaf_holds t && untried t)) _ _ q ∙ accepted_phase
 
   trying : t.phase ≡ 5 → tuning t && (leaf_holds t && try_holds_of t) ≡ true
-  trying q = phase-try t.phase _ _ _ (tuning t && (leaf_holds t && try_holds_of t)) _ q ∙ accepted-phase
+  trying q = phase_try t.phase _ _ _ (tuning t && (leaf_holds t && try_holds_of t)) _ q ∙ accepted_phase
 
-  pub asking-tunes : t.phase ≡ 4 → tuning t ≡ true
-  asking-tunes q = and_left (tuning t) (leaf_holds t && untried t) (asking q)
+  pub asking_tunes : t.phase ≡ 4 → tuning t ≡ true
+  asking_tunes q = and_left (tuning t) (leaf_holds t && untried t) (asking q)
 
-  pub trying-tunes : t.phase ≡ 5 → tuning t ≡ true
-  trying-tunes q = and_left (tuning t) (leaf_holds t && try_holds_of t) (trying q)
+  pub trying_tunes : t.phase ≡ 5 → tuning t ≡ true
+  trying_tunes q = and_left (tuning t) (leaf_holds t && try_holds_of t) (trying q)
 
-  pub asking-leaf : t.phase ≡ 4 → leaf_holds t && untried t ≡ true
-  asking-leaf q = and_right (tuning t) (leaf_holds t && untried t) (asking q)
+  pub asking_leaf : t.phase ≡ 4 → leaf_holds t && untried t ≡ true
+  asking_leaf q = and_right (tuning t) (leaf_holds t && untried t) (asking q)
 
-  pub trying-leaf : t.phase ≡ 5 → leaf_holds t && try_holds_of t ≡ true
-  trying-leaf q = and_right (tuning t) (leaf_holds t && try_holds_of t) (trying q)
+  pub trying_leaf : t.phase ≡ 5 → leaf_holds t && try_holds_of t ≡ true
+  trying_leaf q = and_right (tuning t) (leaf_holds t && try_holds_of t) (trying q)
 
 pub leaf_named : (t : Trainer) → leaf_holds t ≡ true → leaf_in t.tree t.leaf ≡ true
 unfolding leaf_holds
@@ -152,28 +152,28 @@ leaf_named t h = and_left (leaf_in t.tree t.leaf) (not (node_at_of t.tree.nodes 
 pub scoring_ask : (t : Trainer) → accepted_of t ≡ true → t.phase ≡ 4 → Scoring t
 scoring_ask t h q =
     record {
-      settings = accepted-settings t h;
-      grown = accepted-grown t h;
-      leaf = leaf_named t (and_left (leaf_holds t) (untried t) (asking-leaf t h q));
+      settings = accepted_settings t h;
+      grown = accepted_grown t h;
+      leaf = leaf_named t (and_left (leaf_holds t) (untried t) (asking_leaf t h q));
     }
 
 pub scoring_try : (t : Trainer) → accepted_of t ≡ true → t.phase ≡ 5 → Scoring t
 scoring_try t h q =
     record {
-      settings = accepted-settings t h;
-      grown = accepted-grown t h;
-      leaf = leaf_named t (and_left (leaf_holds t) (try_holds_of t) (trying-leaf t h q));
+      settings = accepted_settings t h;
+      grown = accepted_grown t h;
+      leaf = leaf_named t (and_left (leaf_holds t) (try_holds_of t) (trying_leaf t h q));
     }
 
 -- ---- at a leaf of a grown tree
 pub leaf_slot : (t : Trainer) → Scoring t → t.leaf < 513
-leaf_slot t s = omega (arith, leaf_below t.tree t.leaf s.leaf, (grown-facts t.tree s.grown).few)
+leaf_slot t s = omega (arith, leaf_below t.tree t.leaf s.leaf, (grown_facts t.tree s.grown).few)
 
 pub leaf_whole : (t : Trainer) → Scoring t → t.leaf < length t.tree.nodes
-leaf_whole t s = omega (arith, leaf_slot t s, grown-long t.tree (grown-facts t.tree s.grown))
+leaf_whole t s = omega (arith, leaf_slot t s, grown_long t.tree (grown_facts t.tree s.grown))
 
 pub action_valid : (t : Trainer) → Scoring t → valid_of (leaf_action t) ≡ true
-action_valid t s = leaf-valid t.tree (grown-facts t.tree s.grown) t.leaf s.leaf
+action_valid t s = leaf_valid t.tree (grown_facts t.tree s.grown) t.leaf s.leaf
 
 pub valid_as : (x a : Action) → a ≡ x → valid_of x ≡ true → valid_of a ≡ true
 valid_as x a e h = ap valid_of e ∙ h
@@ -207,7 +207,7 @@ kept_listed t h =
     (kept_below t (kept_holds_lem t h))
 
 pub try_holds : (t : Trainer) → accepted_of t ≡ true → t.phase ≡ 5 → try_holds_of t ≡ true
-try_holds t h q = and_right (leaf_holds t) (try_holds_of t) (trying-leaf t h q)
+try_holds t h q = and_right (leaf_holds t) (try_holds_of t) (trying_leaf t h q)
 
 pub score_five : (p : ℕ) → wants_score p ≡ true → (p ≡ 4 → ⊥) → p ≡ 5
 score_five p h n = eqb-true p 5 (rw (ne_eqb p 4 n) at h)

@@ -55,12 +55,12 @@ module _ {A : Type 0} (test : A → Bool) (sum minus : A → A) where
   abbrev pub kept : List A → List A
   kept axis = filter test (changes axis)
 
-  pub kept-turn : (x : A) (axis rest before once twice all : List A) → axis ≡ x ∷ rest
+  pub kept_turn : (x : A) (axis rest before once twice all : List A) → axis ≡ x ∷ rest
       → once ≡ before ++ filter test (sum x ∷ [])
       → twice ≡ once ++ filter test (sum (minus x) ∷ [])
       → before ++ kept axis ≡ all → twice ++ kept rest ≡ all
   unfolding flat_map
-  kept-turn x axis rest before once twice all e o t p =
+  kept_turn x axis rest before once twice all e o t p =
       ap (λ (l : List A). l ++ kept rest) (t ∙ ap (λ (l : List A). l ++ filter test (sum (minus x) ∷ [])) o)
       ∙ append_assoc (before ++ filter test (sum x ∷ [])) (filter test (sum (minus x) ∷ [])) (kept rest)
       ∙ append_assoc before (filter test (sum x ∷ [])) (filter test (sum (minus x) ∷ []) ++ kept rest)
@@ -75,9 +75,9 @@ module _ {A : Type 0} (test : A → Bool) (sum minus : A → A) where
 
 -- ---- one more value: l is the store, of which n values are held
 module _ {A : Type 0} (test : A → Bool) (l : List A) (n : ℕ) (v : A) where
-  pub keep-in : n < length l → test v ≡ true → (n + 1 ≤ n + 1) × (take (n + 1) (set l n v) ≡ take n l ++ filter test (v ∷ []))
+  pub keep_in : n < length l → test v ≡ true → (n + 1 ≤ n + 1) × (take (n + 1) (set l n v) ≡ take n l ++ filter test (v ∷ []))
   unfolding filter
-  keep-in h e = (omega arith, rw (e, add-one n) (take-suc-set l n v h))
+  keep_in h e = (omega arith, rw (e, add-one n) (take-suc-set l n v h))
 
   pub keep_out : test v ≡ false → (n ≤ n + 1) × (take n l ≡ take n l ++ filter test (v ∷ []))
   unfolding filter
@@ -86,39 +86,39 @@ module _ {A : Type 0} (test : A → Bool) (l : List A) (n : ℕ) (v : A) where
 module _ (l : List Float) (n : ℕ) (v low high : Float) where
   pub float_in : n < length l → le low v ≡ true → le v high ≡ true
       → (n + 1 ≤ n + 1) × (take (n + 1) (set l n v) ≡ take n l ++ filter (float_inside low high) (v ∷ []))
-  float_in h p q = keep-in (float_inside low high) l n v h (rw (p, q))
+  float_in h p q = keep_in (float_inside low high) l n v h (rw (p, q))
 
-  pub float-above : le low v ≡ true → le v high ≡ false
+  pub float_above : le low v ≡ true → le v high ≡ false
       → (n ≤ n + 1) × (take n l ≡ take n l ++ filter (float_inside low high) (v ∷ []))
-  float-above p q = keep_out (float_inside low high) l n v (rw (p, q))
+  float_above p q = keep_out (float_inside low high) l n v (rw (p, q))
 
   pub float_below : le low v ≡ false → (n ≤ n + 1) × (take n l ≡ take n l ++ filter (float_inside low high) (v ∷ []))
   float_below p = keep_out (float_inside low high) l n v (rw p)
 
 -- ---- the two loops over an axis of floats, from its value x with n turns left
 module _ (n : ℕ) (t x max : Float) where
-  pub float-count-turn : (b : Bool) → 0 < n → le x max ≡ true → leb (length (float_axis (suc n) t x max)) n ≡ b
+  pub float_count_turn : (b : Bool) → 0 < n → le x max ≡ true → leb (length (float_axis (suc n) t x max)) n ≡ b
       → leb (length (float_axis (suc (n - 1)) t (mul binary64 t x) max)) (n - 1) ≡ b
-  float-count-turn b h e p =
+  float_count_turn b h e p =
       count_turn n x (float_axis (suc n) t x max) (float_axis (suc (n - 1)) t (mul binary64 t x) max) b h
       (float_next (suc n) t x max (omega arith) e ∙ ap (λ (m : ℕ). x ∷ float_axis m t (mul binary64 t x) max) (omega arith)) p
 
-  pub float-count-stop : (b : Bool) → le x max ≡ false → leb (length (float_axis (suc n) t x max)) n ≡ b → true ≡ b
-  float-count-stop b e p = sym (leb-zero n) ∙ ap (λ (l : List Float). leb (length l) n) (sym (float_stop (suc n) t x max e)) ∙ p
+  pub float_count_stop : (b : Bool) → le x max ≡ false → leb (length (float_axis (suc n) t x max)) n ≡ b → true ≡ b
+  float_count_stop b e p = sym (leb-zero n) ∙ ap (λ (l : List Float). leb (length l) n) (sym (float_stop (suc n) t x max e)) ∙ p
 
   module _ (at low high : Float) where
-    pub float-kept-turn : (before once twice all : List Float) → 0 < n → le x max ≡ true
+    pub float_kept_turn : (before once twice all : List Float) → 0 < n → le x max ≡ true
         → once ≡ before ++ filter (float_inside low high) (add binary64 at x ∷ [])
         → twice ≡ once ++ filter (float_inside low high) (add binary64 at (neg x) ∷ [])
         → before ++ kept_floats at low high (float_axis n t x max) ≡ all
         → twice ++ kept_floats at low high (float_axis (n - 1) t (mul binary64 t x) max) ≡ all
-    float-kept-turn before once twice all h e o w p =
-        kept-turn (float_inside low high) (add binary64 at) neg x (float_axis n t x max) (float_axis (n - 1) t (mul binary64 t x) max)
+    float_kept_turn before once twice all h e o w p =
+        kept_turn (float_inside low high) (add binary64 at) neg x (float_axis n t x max) (float_axis (n - 1) t (mul binary64 t x) max)
         before once twice all (float_next n t x max h e) o w p
 
-    pub float-kept-stop : (before all : List Float) → le x max ≡ false
+    pub float_kept_stop : (before all : List Float) → le x max ≡ false
         → before ++ kept_floats at low high (float_axis n t x max) ≡ all → before ≡ all
-    float-kept-stop before all e p =
+    float_kept_stop before all e p =
         kept_none (float_inside low high) (add binary64 at) neg (float_axis n t x max) before all (float_stop n t x max e) p
 
 pub float_count_done : (n : ℕ) (t x max : Float) (b : Bool) → n ≤ 0 → leb (length (float_axis (suc n) t x max)) n ≡ b → not (le x max) ≡ b

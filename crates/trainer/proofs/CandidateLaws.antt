@@ -23,9 +23,9 @@ use Rattle.trainer.specs.declared.candidates.Candidate.TheVariants.{At, Past}
 use Rattle.trainer.specs.Settings.{float_axis, whole_axis, settings_hold}
 use Rattle.trainer.specs.Candidates.{flat_map, filter, inside_of, all_changes, candidates_of, pick_of, no_candidate}
 use Rattle.trainer.specs.Axes.{float_inside, whole_inside, multiplier_sums, increment_sums, delay_sums}
-use Rattle.trainer.proofs.Lists.{filter-length, filter_passes, flat-length}
-use Rattle.trainer.proofs.Product.{candidates_are, product-length}
-use Rattle.trainer.proofs.Holds.{min-valid, max-valid, and_left, and_right}
+use Rattle.trainer.proofs.Lists.{filter_length, filter_passes, flat_length}
+use Rattle.trainer.proofs.Product.{candidates_are, product_length}
+use Rattle.trainer.proofs.Holds.{min_valid, max_valid, and_left, and_right}
 
 -- ---- between two valid ends lies a valid part
 zero_one : ◌≡◌ {A = ℕ} 0 1 → ⊥
@@ -97,8 +97,8 @@ inside_valid s a h e =
     let i = whole_inside lo.window_increment hi.window_increment a.window_increment in
     let d = float_inside lo.intersend_delay.0 hi.intersend_delay.0 a.intersend_delay.0 in
     let r = and_right m (i && d) e in
-    let p = valid_parts lo (min-valid s h) in
-    let q = valid_parts hi (max-valid s h) in
+    let p = valid_parts lo (min_valid s h) in
+    let q = valid_parts hi (max_valid s h) in
     valid_from a
     (float_between lo.window_multiplier hi.window_multiplier a.window_multiplier (and_left m (i && d) e) p.0 q.0)
     (float_between lo.intersend_delay.0 hi.intersend_delay.0 a.intersend_delay.0 (and_right i d r) p.1 q.1)
@@ -162,15 +162,15 @@ kept_few {A} test sum minus axis h =
     let changes = flat_map (λ (v : A). v ∷ minus v ∷ []) axis in
     omega (
       arith,
-      filter-length test (map sum changes),
+      filter_length test (map sum changes),
       length-map changes sum,
-      flat-length (λ (v : A). v ∷ minus v ∷ []) 2 (λ v. refl) axis,
+      flat_length (λ (v : A). v ∷ minus v ∷ []) 2 (λ v. refl) axis,
     )
 
 pub candidates_few : (s : Settings) (a : Action) → length (candidates_of s a) ≤ 4096
 candidates_few s a =
     subst⁻¹ (λ (n : ℕ). n ≤ 4096)
-    (ap length (candidates_are s a) ∙ product-length (delay_sums s a) (multiplier_sums s a) (increment_sums s a))
+    (ap length (candidates_are s a) ∙ product_length (delay_sums s a) (multiplier_sums s a) (increment_sums s a))
     (mul-le-mul (kept_few _ _ _ _ (axis_floats 8 _ _ _))
     (mul-le-mul (kept_few _ _ _ _ (axis_wholes 8 _ _ _)) (kept_few _ _ _ _ (axis_floats 8 _ _ _))))
 

@@ -4,7 +4,7 @@ use mathlib.Core.Bool.{Bool, true, false, ◌&&◌, cond}
 use Prim.Native.Nat.{ℕ, ◌<◌, ◌≤◌}
 use native.Mathlib.Omega.{arith}
 use borrow.Author.Tests.{ne_eqb, eqb-true, eqb-false, leb-true, ltb-true}
-use lib.Dec.{T, eqb, leb, ltb}
+use lib.Dec.{T, eqb, leb}
 use lib.Ieee.{Float, binary64, to_bits, of_bits, fits}
 use Rattle.floats.proofs.Bits.{bits_back}
 use Rattle.remy.specs.Cube.{point_equal}
@@ -17,11 +17,11 @@ use Rattle.trainer.specs.Phases.{refuse, taken}
 use Rattle.trainer.specs.Calls.{wants_score}
 use Rattle.trainer.specs.Change.{phase_fits, round_fits, settings_fit, changed_to, change_of}
 use Rattle.trainer.proofs.Holds.{and_left, and_right}
-use Rattle.trainer.proofs.AcceptWays.{by_phase_lem, leaf-is, phase-split, phase-choose}
-use Rattle.trainer.proofs.AcceptedFacts.{accepted-phase, asking-leaf, trying-leaf}
-use Rattle.trainer.proofs.Accepting.{Sound, Held, held_sound, splitting_parts, stand-one, stand-two, stand-three, leaf-held}
+use Rattle.trainer.proofs.AcceptWays.{by_phase_lem, leaf_is, phase_split, phase_choose}
+use Rattle.trainer.proofs.AcceptedFacts.{accepted_phase, asking_leaf, trying_leaf}
+use Rattle.trainer.proofs.Accepting.{Sound, Held, held_sound, splitting_parts, stand_one, stand_two, stand_three, leaf_held}
 use Rattle.trainer.proofs.SameEnds.{points_through}
-use Rattle.trainer.proofs.ChangeWays.{round-tunes, changed-asks, changed-stands}
+use Rattle.trainer.proofs.ChangeWays.{round_tunes, changed_asks, changed_stands}
 
 -- ---- what settings that fit have
 pub record Fit (t : Trainer) (s : Settings) : Type 0 where
@@ -47,7 +47,7 @@ fit_parts t s h =
     }
 
 round_below : (p r n : ℕ) → 3 ≤ p → p ≤ 5 → round_fits p r n ≡ true → r < n
-round_below p r n a b h = ltb-true r n (round-tunes p r n a b ∙ h)
+round_below p r n a b h = ltb-true r n (round_tunes p r n a b ∙ h)
 
 done_six : (p : ℕ) → p ≡ 6 → phase_fits p ≡ true → ⊥
 unfolding phase_fits
@@ -87,17 +87,17 @@ module _ (t : Trainer) (a : Held t) (s : Settings) (h : settings_hold s ≡ true
       record { grown = g.grown; box = points_through t.tree.ends t.settings.ends s.ends g.box f.ends; whole = g.whole }
 
   splits : 1 ≤ t.phase → t.phase < 3 → splitting t ≡ true
-  splits l m = phase-split t.phase _ _ _ _ _ l m ∙ accepted-phase t a.accepted
+  splits l m = phase_split t.phase _ _ _ _ _ l m ∙ accepted_phase t a.accepted
 
   stands : wants_score t.phase ≡ false → changed_to t s ≡ stand s t.tree t.phase t.stage t.round
-  stands w = sym (changed-stands t s false _ (sym w) refl refl)
+  stands w = sym (changed_stands t s false _ (sym w) refl refl)
 
   asks : wants_score t.phase ≡ true → changed_to t s ≡ at_leaf_of s t.tree t.stage t.round t.leaf
-  asks w = sym (changed-asks t s true _ (sym w) refl refl)
+  asks w = sym (changed_asks t s true _ (sym w) refl refl)
 
-  split-held : 1 ≤ t.phase → t.phase < 3 → (p : ℕ) → t.phase ≡ p → wants_score t.phase ≡ false
+  split_held : 1 ≤ t.phase → t.phase < 3 → (p : ℕ) → t.phase ≡ p → wants_score t.phase ≡ false
       → Held (stand s t.tree p t.stage 0) → Held (changed_to t s)
-  split-held l m p e w k =
+  split_held l m p e w k =
       subst Held
       (sym
       (stands w
@@ -108,30 +108,30 @@ module _ (t : Trainer) (a : Held t) (s : Settings) (h : settings_hold s ≡ true
   later : 1 ≤ t.phase → t.phase < 3 → 1 ≤ t.stage
   later l m = (splitting_parts t (splits l m)).0
 
-  three-held : t.phase ≡ 3 → Held (changed_to t s)
-  three-held e =
+  three_held : t.phase ≡ 3 → Held (changed_to t s)
+  three_held e =
       subst Held (sym (stands (ap wants_score e) ∙ ap (λ (q : ℕ). stand s t.tree q t.stage t.round) e))
-      (stand-three s t.tree h sound t.stage t.round f.stage (round_below t.phase t.round _ (omega arith) (omega arith) f.round))
+      (stand_three s t.tree h sound t.stage t.round f.stage (round_below t.phase t.round _ (omega arith) (omega arith) f.round))
 
   at_held : wants_score t.phase ≡ true → 3 ≤ t.phase → t.phase ≤ 5 → leaf_holds t ≡ true → Held (changed_to t s)
   at_held w l m u =
       subst Held (sym (asks w))
-      (leaf-held s t.tree h sound t.stage t.round t.leaf f.stage (round_below t.phase t.round _ l m f.round) (leaf-is t ∙ u))
+      (leaf_held s t.tree h sound t.stage t.round t.leaf f.stage (round_below t.phase t.round _ l m f.round) (leaf_is t ∙ u))
 
-  pub changed-held : Held (changed_to t s)
-  changed-held =
+  pub changed_held : Held (changed_to t s)
+  changed_held =
       decide t.phase 1
-      (λ e. split-held (omega arith) (omega arith) 1 e (ap wants_score e) (stand-one s t.tree h sound t.stage (later (omega arith) (omega arith)) f.stage))
+      (λ e. split_held (omega arith) (omega arith) 1 e (ap wants_score e) (stand_one s t.tree h sound t.stage (later (omega arith) (omega arith)) f.stage))
       (λ n1. decide t.phase 2
-      (λ e. split-held (omega arith) (omega arith) 2 e (ap wants_score e) (stand-two s t.tree h sound t.stage (later (omega arith) (omega arith)) f.stage))
-      (λ n2. decide t.phase 3 three-held
+      (λ e. split_held (omega arith) (omega arith) 2 e (ap wants_score e) (stand_two s t.tree h sound t.stage (later (omega arith) (omega arith)) f.stage))
+      (λ n2. decide t.phase 3 three_held
       (λ n3. decide t.phase 4
-      (λ e. at_held (ap wants_score e) (omega arith) (omega arith) (and_left (leaf_holds t) (untried t) (asking-leaf t a.accepted e)))
+      (λ e. at_held (ap wants_score e) (omega arith) (omega arith) (and_left (leaf_holds t) (untried t) (asking_leaf t a.accepted e)))
       (λ n4. decide t.phase 5
-      (λ e. at_held (ap wants_score e) (omega arith) (omega arith) (and_left (leaf_holds t) (try_holds_of t) (trying-leaf t a.accepted e)))
+      (λ e. at_held (ap wants_score e) (omega arith) (omega arith) (and_left (leaf_holds t) (try_holds_of t) (trying_leaf t a.accepted e)))
       (λ n5. decide t.phase 6 (λ e. absurd (done_six t.phase e f.phase))
       (λ n6. decide t.phase 7 (λ e. absurd (done_seven t.phase e f.phase))
-      (λ n7. absurd (no_phase t.phase _ _ _ _ _ (accepted-phase t a.accepted) n1 n2 n3 n4 n5 n6 n7))))))))
+      (λ n7. absurd (no_phase t.phase _ _ _ _ _ (accepted_phase t a.accepted) n1 n2 n3 n4 n5 n6 n7))))))))
 
 pub change_held : (t : Trainer) (s : Settings) → Held t → Held (change_of t s).trainer
 unfolding change_of
@@ -139,7 +139,7 @@ change_held t s a = go (accepted_of t) (settings_hold s) (settings_fit t s) refl
   where
     go : (b c d : Bool) → settings_hold s ≡ c → settings_fit t s ≡ d
         → Held (cond b (cond c (cond d (taken (changed_to t s)) (refuse 27 t)) (refuse 2 t)) (refuse 10 t)).trainer
-    go true true true e f = changed-held t a s e (fit_parts t s f)
+    go true true true e f = changed_held t a s e (fit_parts t s f)
     go true true false e f = a
     go true false d e f = a
     go false c d e f = a
@@ -198,9 +198,9 @@ unfolding of_bits
 zero_bits x h e = sym (bits_back x h) ∙ ap (of_bits binary64) (eqb-true (to_bits binary64 x) 0 e)
 
 module _ (t : Trainer) (s : Settings) (b : T (fits binary64 t.best)) (y : T (fits binary64 t.kept_score)) where
-  idle-stays : idle t ≡ true → stand s t.tree t.phase t.stage t.round ≡ with_settings t s
+  idle_stays : idle t ≡ true → stand s t.tree t.phase t.stage t.round ≡ with_settings t s
   unfolding untried_in
-  idle-stays h =
+  idle_stays h =
       let u = and_right (eqb t.leaf 0) (untried t) h in
       let v = and_right (zero_bits_of t.best) _ u in
       let w = and_right (eqb t.k 0) _ v in
@@ -225,15 +225,15 @@ module _ (t : Trainer) (s : Settings) (b : T (fits binary64 t.best)) (y : T (fit
             kept_score = ey i;
           }
 
-  split-idle : splitting t ≡ true → idle t ≡ true
+  split_idle : splitting t ≡ true → idle t ≡ true
   unfolding splitting
-  split-idle h = and_right (eqb t.round 0) (idle t) (and_right (leb t.stage t.settings.rule_splits) _ (and_right (leb 1 t.stage) _ h))
+  split_idle h = and_right (eqb t.round 0) (idle t) (and_right (leb t.stage t.settings.rule_splits) _ (and_right (leb 1 t.stage) _ h))
 
-  pub change-stays : accepted_of t ≡ true → 1 ≤ t.phase → t.phase ≤ 3 → changed_to t s ≡ with_settings t s
-  change-stays a l m =
+  pub change_stays : accepted_of t ≡ true → 1 ≤ t.phase → t.phase ≤ 3 → changed_to t s ≡ with_settings t s
+  change_stays a l m =
       decide t.phase 3
-      (λ e. waits (ap wants_score e) (and_right (tuning t) (idle t) (phase-choose t.phase _ _ _ _ _ e ∙ accepted-phase t a)))
-      (λ n. waits early (split-idle (phase-split t.phase _ _ _ _ _ l (below n) ∙ accepted-phase t a)))
+      (λ e. waits (ap wants_score e) (and_right (tuning t) (idle t) (phase_choose t.phase _ _ _ _ _ e ∙ accepted_phase t a)))
+      (λ n. waits early (split_idle (phase_split t.phase _ _ _ _ _ l (below n) ∙ accepted_phase t a)))
     where
       below : (t.phase ≡ 3 → ⊥) → t.phase < 3
       below n = omega (arith, n)
@@ -242,4 +242,4 @@ module _ (t : Trainer) (s : Settings) (b : T (fits binary64 t.best)) (y : T (fit
       early = rw (ne_eqb t.phase 4 (λ e. absurd (omega arith)), ne_eqb t.phase 5 (λ e. absurd (omega arith)))
 
       waits : wants_score t.phase ≡ false → idle t ≡ true → changed_to t s ≡ with_settings t s
-      waits w i = sym (changed-stands t s false _ (sym w) refl refl) ∙ idle-stays i
+      waits w i = sym (changed_stands t s false _ (sym w) refl refl) ∙ idle_stays i

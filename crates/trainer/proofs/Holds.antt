@@ -24,111 +24,111 @@ use Rattle.trainer.specs.Axes.{WholeFits, Upto}
 
 -- ---- numbers
 module _ (s : Settings) where
-  pub numbers-all : s.rule_splits ≤ 64 → s.optimization_rounds_per_split ≤ 1000 → 2 ≤ s.action_change_multiplier → leb s.action_change_multiplier 16 ≡ numbers_hold s
+  pub numbers_all : s.rule_splits ≤ 64 → s.optimization_rounds_per_split ≤ 1000 → 2 ≤ s.action_change_multiplier → leb s.action_change_multiplier 16 ≡ numbers_hold s
   unfolding numbers_hold
-  numbers-all h k l = rw (le-leb _ _ h, le-leb _ _ k, le-leb _ _ l)
+  numbers_all h k l = rw (le-leb _ _ h, le-leb _ _ k, le-leb _ _ l)
 
-  pub numbers-low : s.rule_splits ≤ 64 → s.optimization_rounds_per_split ≤ 1000 → s.action_change_multiplier < 2 → leb 2 s.action_change_multiplier ≡ numbers_hold s
+  pub numbers_low : s.rule_splits ≤ 64 → s.optimization_rounds_per_split ≤ 1000 → s.action_change_multiplier < 2 → leb 2 s.action_change_multiplier ≡ numbers_hold s
   unfolding numbers_hold
-  numbers-low h k l = rw (le-leb _ _ h, le-leb _ _ k, lt-leb _ _ l)
+  numbers_low h k l = rw (le-leb _ _ h, le-leb _ _ k, lt-leb _ _ l)
 
-  pub numbers-rounds : s.rule_splits ≤ 64 → 1000 < s.optimization_rounds_per_split → false ≡ numbers_hold s
+  pub numbers_rounds : s.rule_splits ≤ 64 → 1000 < s.optimization_rounds_per_split → false ≡ numbers_hold s
   unfolding numbers_hold
-  numbers-rounds h k = rw (le-leb _ _ h, lt-leb _ _ k)
+  numbers_rounds h k = rw (le-leb _ _ h, lt-leb _ _ k)
 
-  pub numbers-splits : 64 < s.rule_splits → false ≡ numbers_hold s
+  pub numbers_splits : 64 < s.rule_splits → false ≡ numbers_hold s
   unfolding numbers_hold
-  numbers-splits h = rw (lt-leb _ _ h)
+  numbers_splits h = rw (lt-leb _ _ h)
 
   -- ---- actions
-  pub actions-all : (b : Bool) → valid_of s.min_action ≡ true → valid_of s.max_action ≡ true → valid_of s.initial_action_change ≡ true
+  pub actions_all : (b : Bool) → valid_of s.min_action ≡ true → valid_of s.max_action ≡ true → valid_of s.initial_action_change ≡ true
       → valid_of s.max_action_change ≡ true → b ≡ valid_of s.default_action → b ≡ actions_hold s
   unfolding actions_hold
-  actions-all b h k l m e = rw (h, k, l, m) e
+  actions_all b h k l m e = rw (h, k, l, m) e
 
-  pub actions-most : valid_of s.min_action ≡ true → valid_of s.max_action ≡ true → valid_of s.initial_action_change ≡ true
+  pub actions_most : valid_of s.min_action ≡ true → valid_of s.max_action ≡ true → valid_of s.initial_action_change ≡ true
       → valid_of s.max_action_change ≡ false → false ≡ actions_hold s
   unfolding actions_hold
-  actions-most h k l m = rw (h, k, l, m)
+  actions_most h k l m = rw (h, k, l, m)
 
-  pub actions-initial : valid_of s.min_action ≡ true → valid_of s.max_action ≡ true → valid_of s.initial_action_change ≡ false
+  pub actions_initial : valid_of s.min_action ≡ true → valid_of s.max_action ≡ true → valid_of s.initial_action_change ≡ false
       → false ≡ actions_hold s
   unfolding actions_hold
-  actions-initial h k l = rw (h, k, l)
+  actions_initial h k l = rw (h, k, l)
 
-  pub actions-max : valid_of s.min_action ≡ true → valid_of s.max_action ≡ false → false ≡ actions_hold s
+  pub actions_max : valid_of s.min_action ≡ true → valid_of s.max_action ≡ false → false ≡ actions_hold s
   unfolding actions_hold
-  actions-max h k = rw (h, k)
+  actions_max h k = rw (h, k)
 
-  pub actions-min : valid_of s.min_action ≡ false → false ≡ actions_hold s
+  pub actions_min : valid_of s.min_action ≡ false → false ≡ actions_hold s
   unfolding actions_hold
-  actions-min h = rw h
+  actions_min h = rw h
 
   -- ---- changes: z and y are the two increments as they come back from 32 bits
   module _ (z : ℤ) (ez : z ≡ s.initial_action_change.window_increment) where
-    pub changes-all : (y : ℤ) → y ≡ s.max_action_change.window_increment
+    pub changes_all : (y : ℤ) → y ≡ s.max_action_change.window_increment
         → lt cube.zero s.initial_action_change.window_multiplier ≡ true → lt_z (pos 0) z ≡ true
         → lt cube.zero s.initial_action_change.intersend_delay.0 ≡ true → le_z z (pos 65536) ≡ true
         → le_z y (pos 65536) ≡ changes_hold s
     unfolding changes_hold
-    changes-all y ey h k l m = rw (← ez, ← ey, h, k, l, m)
+    changes_all y ey h k l m = rw (← ez, ← ey, h, k, l, m)
 
-    pub changes-large : lt cube.zero s.initial_action_change.window_multiplier ≡ true → lt_z (pos 0) z ≡ true
+    pub changes_large : lt cube.zero s.initial_action_change.window_multiplier ≡ true → lt_z (pos 0) z ≡ true
         → lt cube.zero s.initial_action_change.intersend_delay.0 ≡ true → le_z z (pos 65536) ≡ false
         → le_z z (pos 65536) ≡ changes_hold s
     unfolding changes_hold
-    changes-large h k l m = rw (← ez, h, k, l, m)
+    changes_large h k l m = rw (← ez, h, k, l, m)
 
-    pub changes-delay : lt cube.zero s.initial_action_change.window_multiplier ≡ true → lt_z (pos 0) z ≡ true
+    pub changes_delay : lt cube.zero s.initial_action_change.window_multiplier ≡ true → lt_z (pos 0) z ≡ true
         → lt cube.zero s.initial_action_change.intersend_delay.0 ≡ false → false ≡ changes_hold s
     unfolding changes_hold
-    changes-delay h k l = rw (← ez, h, k, l)
+    changes_delay h k l = rw (← ez, h, k, l)
 
-    pub changes-increment : lt cube.zero s.initial_action_change.window_multiplier ≡ true → lt_z (pos 0) z ≡ false
+    pub changes_increment : lt cube.zero s.initial_action_change.window_multiplier ≡ true → lt_z (pos 0) z ≡ false
         → false ≡ changes_hold s
     unfolding changes_hold
-    changes-increment h k = rw (← ez, h, k)
+    changes_increment h k = rw (← ez, h, k)
 
-  pub changes-multiplier : lt cube.zero s.initial_action_change.window_multiplier ≡ false → false ≡ changes_hold s
+  pub changes_multiplier : lt cube.zero s.initial_action_change.window_multiplier ≡ false → false ≡ changes_hold s
   unfolding changes_hold
-  changes-multiplier h = rw h
+  changes_multiplier h = rw h
 
   -- ---- axes
-  pub axes-all : (b : Bool) → leb (length (multiplier_axis 9 s)) 8 ≡ true → leb (length (increment_axis 9 s)) 8 ≡ true
+  pub axes_all : (b : Bool) → leb (length (multiplier_axis 9 s)) 8 ≡ true → leb (length (increment_axis 9 s)) 8 ≡ true
       → b ≡ leb (length (delay_axis 9 s)) 8 → b ≡ axes_hold s
   unfolding axes_hold
-  axes-all b h k e = rw (h, k) e
+  axes_all b h k e = rw (h, k) e
 
-  pub axes-increment : leb (length (multiplier_axis 9 s)) 8 ≡ true → leb (length (increment_axis 9 s)) 8 ≡ false → false ≡ axes_hold s
+  pub axes_increment : leb (length (multiplier_axis 9 s)) 8 ≡ true → leb (length (increment_axis 9 s)) 8 ≡ false → false ≡ axes_hold s
   unfolding axes_hold
-  axes-increment h k = rw (h, k)
+  axes_increment h k = rw (h, k)
 
-  pub axes-multiplier : leb (length (multiplier_axis 9 s)) 8 ≡ false → false ≡ axes_hold s
+  pub axes_multiplier : leb (length (multiplier_axis 9 s)) 8 ≡ false → false ≡ axes_hold s
   unfolding axes_hold
-  axes-multiplier h = rw h
+  axes_multiplier h = rw h
 
   -- ---- all five
-  pub ranges-all : (b : Bool) → axes_hold s ≡ true → b ≡ ends_hold s.ends → b ≡ axes_hold s && ends_hold s.ends
-  ranges-all b h e = rw h e
+  pub ranges_all : (b : Bool) → axes_hold s ≡ true → b ≡ ends_hold s.ends → b ≡ axes_hold s && ends_hold s.ends
+  ranges_all b h e = rw h e
 
-  pub ranges-axes : axes_hold s ≡ false → false ≡ axes_hold s && ends_hold s.ends
-  ranges-axes h = rw h
+  pub ranges_axes : axes_hold s ≡ false → false ≡ axes_hold s && ends_hold s.ends
+  ranges_axes h = rw h
 
-  pub hold-all : (b : Bool) → numbers_hold s ≡ true → actions_hold s ≡ true → changes_hold s ≡ true → b ≡ axes_hold s && ends_hold s.ends → b ≡ settings_hold s
+  pub hold_all : (b : Bool) → numbers_hold s ≡ true → actions_hold s ≡ true → changes_hold s ≡ true → b ≡ axes_hold s && ends_hold s.ends → b ≡ settings_hold s
   unfolding settings_hold
-  hold-all b h k l e = rw (h, k, l) e
+  hold_all b h k l e = rw (h, k, l) e
 
-  pub hold-changes : numbers_hold s ≡ true → actions_hold s ≡ true → changes_hold s ≡ false → false ≡ settings_hold s
+  pub hold_changes : numbers_hold s ≡ true → actions_hold s ≡ true → changes_hold s ≡ false → false ≡ settings_hold s
   unfolding settings_hold
-  hold-changes h k l = rw (h, k, l)
+  hold_changes h k l = rw (h, k, l)
 
-  pub hold-actions : numbers_hold s ≡ true → actions_hold s ≡ false → false ≡ settings_hold s
+  pub hold_actions : numbers_hold s ≡ true → actions_hold s ≡ false → false ≡ settings_hold s
   unfolding settings_hold
-  hold-actions h k = rw (h, k)
+  hold_actions h k = rw (h, k)
 
-  pub hold-numbers : numbers_hold s ≡ false → false ≡ settings_hold s
+  pub hold_numbers : numbers_hold s ≡ false → false ≡ settings_hold s
   unfolding settings_hold
-  hold-numbers h = rw h
+  hold_numbers h = rw h
 
 -- ---- what settings that hold have
 pub and_left : (a b : Bool) → (a && b) ≡ true → a ≡ true
@@ -158,29 +158,29 @@ module _ (s : Settings) where
   unfolding settings_hold
   parts h = five (numbers_hold s) (actions_hold s) (changes_hold s) (axes_hold s) (ends_hold s.ends) h
 
-  ends-valid : actions_hold s ≡ true → (valid_of s.min_action ≡ true) × (valid_of s.max_action ≡ true)
+  ends_valid : actions_hold s ≡ true → (valid_of s.min_action ≡ true) × (valid_of s.max_action ≡ true)
   unfolding actions_hold
-  ends-valid h =
+  ends_valid h =
       let q =
       four (valid_of s.min_action) (valid_of s.max_action) (valid_of s.initial_action_change)
       (valid_of s.max_action_change && valid_of s.default_action) h in
       (q.0, q.1)
 
-  pub min-valid : settings_hold s ≡ true → valid_of s.min_action ≡ true
-  min-valid h = (ends-valid (parts h).1).0
+  pub min_valid : settings_hold s ≡ true → valid_of s.min_action ≡ true
+  min_valid h = (ends_valid (parts h).1).0
 
-  pub max-valid : settings_hold s ≡ true → valid_of s.max_action ≡ true
-  max-valid h = (ends-valid (parts h).1).1
+  pub max_valid : settings_hold s ≡ true → valid_of s.max_action ≡ true
+  max_valid h = (ends_valid (parts h).1).1
 
-  numbers-factor : numbers_hold s ≡ true → leb s.action_change_multiplier 16 ≡ true
+  numbers_factor : numbers_hold s ≡ true → leb s.action_change_multiplier 16 ≡ true
   unfolding numbers_hold
-  numbers-factor h = (four (leb s.rule_splits 64) (leb s.optimization_rounds_per_split 1000) (leb 2 s.action_change_multiplier) (leb s.action_change_multiplier 16) h).3
+  numbers_factor h = (four (leb s.rule_splits 64) (leb s.optimization_rounds_per_split 1000) (leb 2 s.action_change_multiplier) (leb s.action_change_multiplier 16) h).3
 
-  changes-parts : changes_hold s ≡ true
+  changes_parts : changes_hold s ≡ true
       → (lt_z (pos 0) s.initial_action_change.window_increment ≡ true)
       × ((le_z s.initial_action_change.window_increment (pos 65536) && le_z s.max_action_change.window_increment (pos 65536)) ≡ true)
   unfolding changes_hold
-  changes-parts h =
+  changes_parts h =
       let q =
       four (lt cube.zero s.initial_action_change.window_multiplier) (lt_z (pos 0) s.initial_action_change.window_increment)
       (lt cube.zero s.initial_action_change.intersend_delay.0)
@@ -188,14 +188,14 @@ module _ (s : Settings) where
       (q.1, q.3)
 
   -- the whole axis fits 32 bits
-  pub whole-fits : numbers_hold s ≡ true → changes_hold s ≡ true
+  pub whole_fits : numbers_hold s ≡ true → changes_hold s ≡ true
       → WholeFits s.action_change_multiplier s.initial_action_change.window_increment s.max_action_change.window_increment
-  whole-fits n c =
+  whole_fits n c =
       let z = s.initial_action_change.window_increment in
       let y = s.max_action_change.window_increment in
-      let q = changes-parts c in
+      let q = changes_parts c in
       record {
-        factor = leb-true s.action_change_multiplier 16 (numbers-factor n);
+        factor = leb-true s.action_change_multiplier 16 (numbers_factor n);
         start = upto z q.0 (and_left (le_z z (pos 65536)) (le_z y (pos 65536)) q.1);
         most = and_right (le_z z (pos 65536)) (le_z y (pos 65536)) q.1;
       }

@@ -24,10 +24,10 @@ module _ {A : Type 0} (keep : A → Bool) where
       go true h = ap (◌∷◌ x) h
       go false h = h
 
-  pub filter-length : (xs : List A) → length (filter keep xs) ≤ length xs
+  pub filter_length : (xs : List A) → length (filter keep xs) ≤ length xs
   unfolding filter
-  filter-length [] = omega arith
-  filter-length (x ∷ xs) = go (keep x) (filter-length xs)
+  filter_length [] = omega arith
+  filter_length (x ∷ xs) = go (keep x) (filter_length xs)
     where
       go : (b : Bool) → length (filter keep xs) ≤ length xs → length (cond b (x ∷ filter keep xs) (filter keep xs)) ≤ suc (length xs)
       go true h = omega arith
@@ -52,15 +52,15 @@ module _ {A : Type 0} (keep : A → Bool) where
 
 -- One axis of a nested list. b is what the tests of the axes outside this one came to.
 module _ {A B C : Type 0} (keep : C → Bool) (test : B → Bool) (sum : A → B) (inner : A → List C) (made : B → List C) where
-  pub by-axis : (b : Bool) → ((x : A) → filter keep (inner x) ≡ cond (b && test (sum x)) (made (sum x)) [])
+  pub by_axis : (b : Bool) → ((x : A) → filter keep (inner x) ≡ cond (b && test (sum x)) (made (sum x)) [])
       → (xs : List A) → filter keep (flat_map inner xs) ≡ cond b (flat_map made (filter test (map sum xs))) []
   unfolding filter flat_map
-  by-axis true h [] = refl
-  by-axis false h [] = refl
-  by-axis b h (x ∷ xs) =
+  by_axis true h [] = refl
+  by_axis false h [] = refl
+  by_axis b h (x ∷ xs) =
       filter-append keep (inner x) (flat_map inner xs)
       ∙ ap (λ (l : List C). l ++ filter keep (flat_map inner xs)) (h x)
-      ∙ ap (λ (l : List C). cond (b && test (sum x)) (made (sum x)) [] ++ l) (by-axis b h xs)
+      ∙ ap (λ (l : List C). cond (b && test (sum x)) (made (sum x)) [] ++ l) (by_axis b h xs)
       ∙ joined b (test (sum x))
     where
       joined : (b t : Bool)
@@ -93,11 +93,11 @@ split k (suc n) l p h = omega (arith, suc-mul l (suc n))
 
 -- A nested list whose inner lists have n elements each.
 module _ {A B : Type 0} (inner : A → List B) (n : ℕ) (each : (x : A) → length (inner x) ≡ n) where
-  pub flat-length : (xs : List A) → length (flat_map inner xs) ≡ length xs * n
+  pub flat_length : (xs : List A) → length (flat_map inner xs) ≡ length xs * n
   unfolding flat_map
-  flat-length [] = omega arith
-  flat-length (x ∷ xs) =
-      length-append (inner x) (flat_map inner xs) ∙ more (length (inner x)) (length (flat_map inner xs)) (length xs) (each x) (flat-length xs)
+  flat_length [] = omega arith
+  flat_length (x ∷ xs) =
+      length-append (inner x) (flat_map inner xs) ∙ more (length (inner x)) (length (flat_map inner xs)) (length xs) (each x) (flat_length xs)
     where
       more : (a b c : ℕ) → a ≡ n → b ≡ c * n → a + b ≡ suc c * n
       more a b c e f = omega arith
@@ -117,14 +117,14 @@ module _ {A B : Type 0} (inner : A → List B) (n : ℕ) (each : (x : A) → len
       ∙ h
       ∙ rw (add-div_left j p, add-one (j / n), add-mod_left n j)
 
-  pub flat-at : (xs : List A) (k : ℕ) (d : B) (e : A) → k < length xs * n
+  pub flat_at : (xs : List A) (k : ℕ) (d : B) (e : A) → k < length xs * n
       → get_or (flat_map inner xs) k d ≡ get_or (inner (get_or xs (k / n) e)) (k % n) d
   unfolding flat_map
-  flat-at [] k d e h = absurd (none k n h)
+  flat_at [] k d e h = absurd (none k n h)
     where
       none : (k n : ℕ) → k < 0 * n → ⊥
       none k n h = omega arith
-  flat-at (x ∷ xs) k d e h = go (ltb k n) refl (λ j h. flat-at xs j d e h)
+  flat_at (x ∷ xs) k d e h = go (ltb k n) refl (λ j h. flat_at xs j d e h)
     where
       go : (b : Bool) → ltb k n ≡ b
           → ((j : ℕ) → j < length xs * n → get_or (flat_map inner xs) j d ≡ get_or (inner (get_or xs (j / n) e)) (j % n) d)

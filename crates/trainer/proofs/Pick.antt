@@ -22,27 +22,27 @@ use Rattle.trainer.specs.declared.inner.axes.WholeSums.{WholeSums}
 use Rattle.trainer.specs.Settings.{settings_hold}
 use Rattle.trainer.specs.Candidates.{candidates_of, pick_of, candidate_of, no_candidate}
 use Rattle.trainer.specs.Axes.{HoldsFloats, HoldsWholes, multiplier_sums, increment_sums, delay_sums}
-use Rattle.trainer.proofs.Product.{candidates_are, product-length, product_at, some}
+use Rattle.trainer.proofs.Product.{candidates_are, product_length, product_at, some}
 
 -- ---- numbers: m, i and d values, and k below their product
 module _ (m i d k : ℕ) (h : k < m * (i * d)) where
-  pub each-some : 0 < i * d
-  each-some = some k m (i * d) h
+  pub each_some : 0 < i * d
+  each_some = some k m (i * d) h
 
   pub rest_below : k % (i * d) < i * d
-  rest_below = mod-lt k each-some
+  rest_below = mod-lt k each_some
 
   pub last_some : 0 < d
   last_some = some (k % (i * d)) i d rest_below
 
   pub first_below : k / (i * d) < m
-  first_below = (div-lt_iff_lt-mul each-some).1 h
+  first_below = (div-lt_iff_lt-mul each_some).1 h
 
   pub second_below : k % (i * d) / d < i
   second_below = (div-lt_iff_lt-mul last_some).1 rest_below
 
-  pub third-below : k % (i * d) % d < d
-  third-below = mod-lt (k % (i * d)) last_some
+  pub third_below : k % (i * d) % d < d
+  third_below = mod-lt (k % (i * d)) last_some
 
 pub each_fits : (i d : ℕ) → i ≤ 16 → d ≤ 16 → Fits w32 (i * d)
 each_fits i d h k = record { fits = omega (arith, mul-le-mul h k) }
@@ -67,20 +67,20 @@ module _ (s : Settings) (a : Action) (m : FloatSums) (i : WholeSums) (d : FloatS
   ds = held d.values (delay_sums s a) d.count ld hd.few hd.list
 
   pub total : m.count * (i.count * d.count) ≡ length (candidates_of s a)
-  total = sym (ap length (candidates_are s a) ∙ product-length (delay_sums s a) (multiplier_sums s a) (increment_sums s a) ∙ rw (ms, is, ds))
+  total = sym (ap length (candidates_are s a) ∙ product_length (delay_sums s a) (multiplier_sums s a) (increment_sums s a) ∙ rw (ms, is, ds))
 
   module _ (k : ℕ) where
-    pub pick-past : m.count * (i.count * d.count) ≤ k
+    pub pick_past : m.count * (i.count * d.count) ≤ k
         → ◌≡◌ {A = Candidate} (Past (m.count * (i.count * d.count))) (pick_of (candidates_of s a) k)
     unfolding pick_of
-    pick-past h = rw (← total, le-ltb k (m.count * (i.count * d.count)) h)
+    pick_past h = rw (← total, le-ltb k (m.count * (i.count * d.count)) h)
 
-    at-k : k < m.count * (i.count * d.count)
+    at_k : k < m.count * (i.count * d.count)
         → get_or (candidates_of s a) k no_candidate
         ≡ action_of (get_or (multiplier_sums s a) (k / (i.count * d.count)) nan)
         (get_or (increment_sums s a) (k % (i.count * d.count) / d.count) (pos 0))
         (get_or (delay_sums s a) (k % (i.count * d.count) % d.count) nan)
-    at-k h =
+    at_k h =
         ap (λ (l : List Action). get_or l k no_candidate) (candidates_are s a)
         ∙ product_at (delay_sums s a) (multiplier_sums s a) (increment_sums s a) k no_candidate (rw (ms, is, ds) h)
         ∙ rw (is, ds)
@@ -96,18 +96,18 @@ module _ (s : Settings) (a : Action) (m : FloatSums) (i : WholeSums) (d : FloatS
     pick_at x y v z w h ex ey ez ev ew =
         rw (← total, lt-ltb k (m.count * (i.count * d.count)) h)
         (ap (At (m.count * (i.count * d.count)))
-        (ew ∙ rw (ev, ex, ey, ez, hm.list, hi.list, hd.list) (sym (at-k h))))
+        (ew ∙ rw (ev, ex, ey, ez, hm.list, hi.list, hd.list) (sym (at_k h))))
 
 -- ---- the candidate call
 module _ (s : Settings) (a : Action) (k : ℕ) where
-  pub call-picks : (r : Candidate) → settings_hold s ≡ true → valid_of a ≡ true → r ≡ pick_of (candidates_of s a) k → r ≡ candidate_of s a k
+  pub call_picks : (r : Candidate) → settings_hold s ≡ true → valid_of a ≡ true → r ≡ pick_of (candidates_of s a) k → r ≡ candidate_of s a k
   unfolding candidate_of
-  call-picks r h v e = rw (h, v) e
+  call_picks r h v e = rw (h, v) e
 
-  pub call-action : settings_hold s ≡ true → valid_of a ≡ false → ◌≡◌ {A = Candidate} (Refused 1) (candidate_of s a k)
+  pub call_action : settings_hold s ≡ true → valid_of a ≡ false → ◌≡◌ {A = Candidate} (Refused 1) (candidate_of s a k)
   unfolding candidate_of
-  call-action h v = rw (h, v)
+  call_action h v = rw (h, v)
 
-  pub call-settings : settings_hold s ≡ false → ◌≡◌ {A = Candidate} (Refused 2) (candidate_of s a k)
+  pub call_settings : settings_hold s ≡ false → ◌≡◌ {A = Candidate} (Refused 2) (candidate_of s a k)
   unfolding candidate_of
-  call-settings h = rw h
+  call_settings h = rw h

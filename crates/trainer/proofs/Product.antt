@@ -15,7 +15,7 @@ use Rattle.trainer.specs.Candidates.{flat_map, filter, inside_of, candidates_of}
 use Rattle.trainer.specs.Settings.{multiplier_axis, increment_axis, delay_axis}
 use Rattle.trainer.specs.Candidates.{float_changes, whole_changes}
 use Rattle.trainer.specs.Axes.{float_inside, whole_inside, multiplier_sums, increment_sums, delay_sums}
-use Rattle.trainer.proofs.Lists.{by-axis, map_flat, flat-length, flat-at, get_d_any}
+use Rattle.trainer.proofs.Lists.{by_axis, map_flat, flat_length, flat_at, get_d_any}
 
 abbrev pub row : List Float → Float → ℤ → List Action
 row ds m i = map (action_of m i) ds
@@ -35,23 +35,23 @@ some k a zero h = absurd (none k (omega (arith, mul-zero a)))
 some k a (suc b) h = omega arith
 
 module _ (ds : List Float) where
-  row-length : (m : Float) (i : ℤ) → length (row ds m i) ≡ length ds
-  row-length m i = length-map ds (action_of m i)
+  row_length : (m : Float) (i : ℤ) → length (row ds m i) ≡ length ds
+  row_length m i = length-map ds (action_of m i)
 
-  plane-length : (is : List ℤ) (m : Float) → length (plane is ds m) ≡ length is * length ds
-  plane-length is m = flat-length (row ds m) (length ds) (row-length m) is
+  plane_length : (is : List ℤ) (m : Float) → length (plane is ds m) ≡ length is * length ds
+  plane_length is m = flat_length (row ds m) (length ds) (row_length m) is
 
-  pub product-length : (ms : List Float) (is : List ℤ) → length (product ms is ds) ≡ length ms * (length is * length ds)
-  product-length ms is = flat-length (plane is ds) (length is * length ds) (plane-length is) ms
+  pub product_length : (ms : List Float) (is : List ℤ) → length (product ms is ds) ≡ length ms * (length is * length ds)
+  product_length ms is = flat_length (plane is ds) (length is * length ds) (plane_length is) ms
 
   row_at : (m : Float) (i : ℤ) (k : ℕ) (d : Action) → k < length ds → get_or (row ds m i) k d ≡ action_of m i (get_or ds k nan)
   row_at m i k d h =
-      get_d_any (row ds m i) k d (action_of m i nan) (rw (row-length m i) h) ∙ get_or-map (action_of m i) ds k nan
+      get_d_any (row ds m i) k d (action_of m i nan) (rw (row_length m i) h) ∙ get_or-map (action_of m i) ds k nan
 
-  plane-at : (is : List ℤ) (m : Float) (k : ℕ) (d : Action) → k < length is * length ds
+  plane_at : (is : List ℤ) (m : Float) (k : ℕ) (d : Action) → k < length is * length ds
       → get_or (plane is ds m) k d ≡ action_of m (get_or is (k / length ds) (pos 0)) (get_or ds (k % length ds) nan)
-  plane-at is m k d h =
-      flat-at (row ds m) (length ds) (row-length m) is k d (pos 0) h
+  plane_at is m k d h =
+      flat_at (row ds m) (length ds) (row_length m) is k d (pos 0) h
       ∙ row_at m (get_or is (k / length ds) (pos 0)) (k % length ds) d (mod-lt k (some k (length is) (length ds) h))
 
   pub product_at : (ms : List Float) (is : List ℤ) (k : ℕ) (d : Action) → k < length ms * (length is * length ds)
@@ -59,8 +59,8 @@ module _ (ds : List Float) where
       ≡ action_of (get_or ms (k / (length is * length ds)) nan) (get_or is (k % (length is * length ds) / length ds) (pos 0))
       (get_or ds (k % (length is * length ds) % length ds) nan)
   product_at ms is k d h =
-      flat-at (plane is ds) (length is * length ds) (plane-length is) ms k d nan h
-      ∙ plane-at is (get_or ms (k / (length is * length ds)) nan) (k % (length is * length ds)) d
+      flat_at (plane is ds) (length is * length ds) (plane_length is) ms k d nan h
+      ∙ plane_at is (get_or ms (k / (length is * length ds)) nan) (k % (length is * length ds)) d
       (mod-lt k (some k (length ms) (length is * length ds) h))
 
 -- ---- a test that goes by axis, with the sums f, g and h of the three axes
@@ -75,29 +75,29 @@ module _ (keep : Action → Bool) (km : Float → Bool) (ki : ℤ → Bool) (kd 
   unfolding filter
   in_row m i =
       ap (filter keep) (map_flat (λ (d : Float). action_of m i (h d)) ds)
-      ∙ by-axis keep kd h (λ (d : Float). action_of m i (h d) ∷ []) (λ (d : Float). action_of m i d ∷ []) (km m && ki i)
+      ∙ by_axis keep kd h (λ (d : Float). action_of m i (h d) ∷ []) (λ (d : Float). action_of m i d ∷ []) (km m && ki i)
       (λ d. ap (λ (b : Bool). cond b (action_of m i (h d) ∷ []) []) (parts m i (h d) ∙ and_assoc (km m) (ki i) (kd (h d)))) ds
       ∙ ap (λ (l : List Action). cond (km m && ki i) l []) (sym (map_flat (action_of m i) (filter kd (map h ds))))
 
-  in-plane : (is : List ℤ) (m : Float)
+  in_plane : (is : List ℤ) (m : Float)
       → filter keep (flat_map (λ (i : ℤ). map (λ (d : Float). action_of m (g i) (h d)) ds) is)
       ≡ cond (km m) (plane (filter ki (map g is)) (filter kd (map h ds)) m) []
-  in-plane is m =
-      by-axis keep ki g (λ (i : ℤ). map (λ (d : Float). action_of m (g i) (h d)) ds) (row (filter kd (map h ds)) m) (km m)
+  in_plane is m =
+      by_axis keep ki g (λ (i : ℤ). map (λ (d : Float). action_of m (g i) (h d)) ds) (row (filter kd (map h ds)) m) (km m)
       (λ i. in_row m (g i)) is
 
-  in-product : (ms : List Float) (is : List ℤ)
+  in_product : (ms : List Float) (is : List ℤ)
       → filter keep (flat_map (λ (m : Float). flat_map (λ (i : ℤ). map (λ (d : Float). action_of (f m) (g i) (h d)) ds) is) ms)
       ≡ product (filter km (map f ms)) (filter ki (map g is)) (filter kd (map h ds))
-  in-product ms is =
-      by-axis keep km f (λ (m : Float). flat_map (λ (i : ℤ). map (λ (d : Float). action_of (f m) (g i) (h d)) ds) is)
-      (plane (filter ki (map g is)) (filter kd (map h ds))) true (λ m. in-plane is (f m)) ms
+  in_product ms is =
+      by_axis keep km f (λ (m : Float). flat_map (λ (i : ℤ). map (λ (d : Float). action_of (f m) (g i) (h d)) ds) is)
+      (plane (filter ki (map g is)) (filter kd (map h ds))) true (λ m. in_plane is (f m)) ms
 
 pub candidates_are : (s : Settings) (a : Action)
     → candidates_of s a ≡ product (multiplier_sums s a) (increment_sums s a) (delay_sums s a)
 unfolding candidates_of inside_of
 candidates_are s a =
-    in-product (inside_of s) (float_inside s.min_action.window_multiplier s.max_action.window_multiplier)
+    in_product (inside_of s) (float_inside s.min_action.window_multiplier s.max_action.window_multiplier)
     (whole_inside s.min_action.window_increment s.max_action.window_increment)
     (float_inside s.min_action.intersend_delay.0 s.max_action.intersend_delay.0)
     (add binary64 a.window_multiplier) (◌+ℤ◌ a.window_increment) (add binary64 a.intersend_delay.0)

@@ -1,5 +1,5 @@
 -- What each public call on a trainer answers, refusals first and in 01's order.
-use Rattle.std.specs.Prelude.{Bool, true, false, ◌&&◌, ◌||◌, cond, List, [], ◌∷◌, ℕ, ◌+◌, get_or, eqb, pos, Float}
+use Rattle.std.specs.Prelude.{Bool, false, ◌||◌, cond, List, [], ◌∷◌, ℕ, ◌+◌, get_or, eqb, pos, Float}
 use Rattle.std.specs.Float.{binary64}
 use Rattle.std.specs.Float.Ieee.{div, of_int}
 use Rattle.refusal.specs.Numbers.{bad_counts, bad_settings, not_asked, not_grown}

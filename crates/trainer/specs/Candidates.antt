@@ -1,5 +1,5 @@
 -- 01, "Candidates are possible_improvements": the list, and the call that gives one of it.
-use Rattle.std.specs.Prelude.{Bool, true, false, ◌&&◌, cond, List, [], ◌∷◌, ◌++◌, map, ℕ, ◌+◌, length, get_or, ltb, ℤ, pos, neg_ℤ, ◌+ℤ◌, Float}
+use Rattle.std.specs.Prelude.{Bool, ◌&&◌, cond, List, [], ◌∷◌, ◌++◌, map, ℕ, length, get_or, ltb, ℤ, pos, neg_ℤ, ◌+ℤ◌, Float}
 use Rattle.std.specs.Int.Signed.{le_z}
 use Rattle.std.specs.Float.{nan, binary64}
 use Rattle.std.specs.Float.Ieee.{add, neg, le}

@@ -1,9 +1,8 @@
 -- 01, "trainers/remy.rs": settings, and which a trainer takes (refusal 2).
-use Rattle.std.specs.Prelude.{Bool, true, false, ◌&&◌, cond, List, [], ◌∷◌, ℕ, zero, suc, length, leb, ℤ, pos, ◌*ℤ◌, Float}
+use Rattle.std.specs.Prelude.{Bool, ◌&&◌, cond, List, [], ◌∷◌, ℕ, zero, suc, length, leb, ℤ, pos, ◌*ℤ◌, Float}
 use Rattle.std.specs.Int.Signed.{le_z, lt_z}
-use Rattle.std.specs.Float.{fin, binary64}
+use Rattle.std.specs.Float.{binary64}
 use Rattle.std.specs.Float.Ieee.{mul, le, lt, of_int}
-use Rattle.remy.specs.declared.action.Action.{Action}
 use Rattle.remy.specs.Action.{valid_of}
 use Rattle.remy.specs.Cube as cube
 use Rattle.rule_tree.specs.Grown.{ends_hold}

@@ -1,5 +1,5 @@
 -- A trainer's state, and which states are accepted: 01's "Accepted", and refusal 10 of a trainer.
-use Rattle.std.specs.Prelude.{Bool, true, false, not, ◌&&◌, ◌||◌, cond, ℕ, ◌+◌, length, eqb, ltb, leb, Float}
+use Rattle.std.specs.Prelude.{Bool, false, not, ◌&&◌, ◌||◌, cond, ℕ, ◌+◌, length, eqb, ltb, leb, Float}
 use Rattle.std.specs.Float.{binary64}
 use Rattle.std.specs.Float.Ieee.{to_bits, lt}
 use Rattle.remy.specs.declared.action.Action.{Action}

@@ -7,7 +7,7 @@ use crate::settings::Settings;
 use remy::action::Action;
 
 // The length of the list of candidates, with candidate k or past its end.
-#[derive(Drop)]
+#[derive(Clone, Copy)]
 pub enum Candidate {
     At(u32, Action),
     Past(u32),

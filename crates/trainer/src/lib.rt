@@ -1,4 +1,6 @@
 // The trainer: it asks for counts and scores, and grows and tunes a rule tree by the answers.
+#![tactic(auto)]
+
 ghost use Rattle.std.specs.Prelude.{◌≡◌};
 ghost use Rattle.trainer.specs.State.{accepted_of};
 ghost use Rattle.trainer.specs.Calls.{start_of, question_of, answer_counts_of, answer_score_of};
@@ -13,7 +15,7 @@ pub mod inner;
 pub mod settings;
 
 // The fields of the saved record, one to one. A phase's unused fields are 0, and kept 65535.
-#[derive(Drop)]
+#[derive(Clone, Copy)]
 pub struct Trainer {
     pub settings: Settings,
     pub tree: RuleTree,
@@ -28,14 +30,14 @@ pub struct Trainer {
 }
 
 // A trainer after a call, or the trainer that came and the refusal's number.
-#[derive(Drop)]
+#[derive(Clone, Copy)]
 pub struct Answered {
     pub refused: u32,
     pub trainer: Trainer,
 }
 
 // What the trainer asks for, with its progress.
-#[derive(Drop)]
+#[derive(Clone, Copy)]
 pub enum Question {
     Counts(f64),
     Score(u16, Action, f64),

@@ -6,7 +6,7 @@ use crate::inner::axes;
 use remy::action::Action;
 use remy::point::Point;
 
-#[derive(Drop)]
+#[derive(Clone, Copy)]
 pub struct Settings {
     pub rule_splits: u32,
     pub optimization_rounds_per_split: u32,

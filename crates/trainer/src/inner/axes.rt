@@ -13,13 +13,13 @@ use crate::settings::Settings;
 use remy::action::Action;
 
 // The sums that an axis keeps: the first count of the values.
-#[derive(Drop)]
+#[derive(Clone, Copy)]
 pub struct FloatSums {
     pub values: [f64; 16],
     pub count: u32,
 }
 
-#[derive(Drop)]
+#[derive(Clone, Copy)]
 pub struct WholeSums {
     pub values: [i32; 16],
     pub count: u32,
