@@ -19,11 +19,11 @@ use Rattle.record.specs.Read.{split_count, version_at, read_of}
 use Rattle.record.specs.Calls.{length_holds, version_holds, again_of, body_holds, load_of}
 use Rattle.record.specs.Accepted.{accepted_bytes}
 use Rattle.wire.proofs.Bytes.{same_of, same_is, false_of, never}
-use Rattle.record.proofs.Loading.{load-short}
+use Rattle.record.proofs.Loading.{load_short}
 use Rattle.record.proofs.NumbersAgain.{Bytes}
 use Rattle.record.proofs.AcceptedParts.{accepted_parts}
-use Rattle.record.proofs.WrittenAgain.{read-accepted, written-again}
-use Rattle.record.proofs.RecordAccepted.{record-accepted}
+use Rattle.record.proofs.WrittenAgain.{read_accepted, written_again}
+use Rattle.record.proofs.RecordAccepted.{record_accepted}
 
 module _ (bytes : List ℕ) (all : Bytes bytes) (told : length_holds bytes ≡ true) where
   abbrev lay : Layout
@@ -43,27 +43,27 @@ module _ (bytes : List ℕ) (all : Bytes bytes) (told : length_holds bytes ≡ t
       let e : number_at bytes 0 4 ≡ length bytes - 4 = eqb-true _ _ (and_r (leb (number_at bytes 0 4) 16384) _ r) in
       omega arith
 
-  holds-accepted : body_holds bytes ≡ true → accepted_bytes bytes ≡ true
+  holds_accepted : body_holds bytes ≡ true → accepted_bytes bytes ≡ true
   unfolding body_holds accepted_bytes
-  holds-accepted h =
-      record-accepted lay v bytes all (and_l (accepted_of (read_of bytes)) _ h)
+  holds_accepted h =
+      record_accepted lay v bytes all (and_l (accepted_of (read_of bytes)) _ h)
       (same_is (again_of bytes) bytes (and_r (accepted_of (read_of bytes)) _ h))
 
-  accepted-holds : accepted_bytes bytes ≡ true → body_holds bytes ≡ true
+  accepted_holds : accepted_bytes bytes ≡ true → body_holds bytes ≡ true
   unfolding body_holds accepted_bytes
-  accepted-holds h =
+  accepted_holds h =
       let p = accepted_parts lay bytes count h in
-      let a : accepted_of (read_of bytes) ≡ true = read-accepted lay bytes all p in
-      let e : same_bytes (again_of bytes) bytes ≡ true = same_of (again_of bytes) bytes (written-again lay bytes all p v length_told refl) in
+      let a : accepted_of (read_of bytes) ≡ true = read_accepted lay bytes all p in
+      let e : same_bytes (again_of bytes) bytes ≡ true = same_of (again_of bytes) bytes (written_again lay bytes all p v length_told refl) in
       rw (a, e)
 
   -- "Accepted": bytes are the record of an accepted trainer exactly where the rules hold
-  pub accepted-exactly : body_holds bytes ≡ accepted_bytes bytes
-  accepted-exactly = go (body_holds bytes) refl
+  pub accepted_exactly : body_holds bytes ≡ accepted_bytes bytes
+  accepted_exactly = go (body_holds bytes) refl
     where
       go : (b : Bool) → body_holds bytes ≡ b → body_holds bytes ≡ accepted_bytes bytes
-      go true e = e ∙ sym (holds-accepted e)
-      go false e = e ∙ sym (false_of (accepted_bytes bytes) (λ a. never (sym e ∙ accepted-holds a)))
+      go true e = e ∙ sym (holds_accepted e)
+      go false e = e ∙ sym (false_of (accepted_bytes bytes) (λ a. never (sym e ∙ accepted_holds a)))
 
 -- ---- load, by the rules
 load_is : (bytes : List ℕ)
@@ -81,8 +81,8 @@ load_exactly bytes all = go (length_holds bytes) refl
     go : (b : Bool) → length_holds bytes ≡ b
         → load_of bytes
         ≡ guarded (test (length_holds bytes) 6 ∷ test (version_holds bytes) 7 ∷ test (accepted_bytes bytes) 8 ∷ []) (λ k. refuse k blank_trainer) (taken (read_of bytes))
-    go false e = sym (load-short bytes e) ∙ rw e
+    go false e = sym (load_short bytes e) ∙ rw e
     go true e =
         load_is bytes
         ∙ ap (λ (b : Bool). guarded (test (length_holds bytes) 6 ∷ test (version_holds bytes) 7 ∷ test b 8 ∷ []) (λ k. refuse k blank_trainer) (taken (read_of bytes)))
-        (accepted-exactly bytes all e)
+        (accepted_exactly bytes all e)

@@ -6,12 +6,11 @@ use Prim.Native.Nat.{ℕ, ◌≤◌}
 use borrow.Author.Tests.{eq-eqb, eqb-true, le-leb, leb-true}
 use lib.Dec.{leb}
 use lib.ListN.{length}
-use Rattle.rule_tree.specs.Grown.{ends_hold}
 use Rattle.rule_tree.proofs.Plain.{and_l, and_r}
 use Rattle.trainer.specs.Settings.{settings_hold}
 use Rattle.record.specs.declared.inner.layout.Layout.{Layout}
 use Rattle.record.specs.Layout.{state_place, size_in}
-use Rattle.record.specs.Read.{settings_at, ends_at}
+use Rattle.record.specs.Read.{settings_at}
 use Rattle.record.specs.Accepted.{flag_accepted, size_accepted, settings_accepted, splits_accepted, nodes_accepted, state_accepted, accepted_in}
 
 pub record Accepted (lay : Layout) (bytes : List ℕ) (s : ℕ) : Type 0 where

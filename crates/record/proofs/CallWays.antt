@@ -9,7 +9,7 @@ use lib.Dec.{eqb, leb}
 use lib.ListN.{length, get_or, take, drop}
 use lib.Seq.{sets, sets-eq, take_at}
 use Rattle.rule_tree.specs.Grown.{grown_of}
-use Rattle.rule_tree.proofs.Links.{grown-splits}
+use Rattle.rule_tree.proofs.Links.{grown_splits}
 use Rattle.trainer.specs.declared.Trainer.{Trainer}
 use Rattle.trainer.specs.declared.Answered.{Answered}
 use Rattle.trainer.specs.State.{accepted_of}
@@ -25,8 +25,8 @@ use Rattle.record.specs.Calls.{save_of, buffer_after, length_holds, version_hold
 use Rattle.record.specs.Parts.{body_taken}
 use Rattle.wire.proofs.Bytes.{false_of}
 use Rattle.record.proofs.Layouts.{size_most}
-use Rattle.record.proofs.Size.{record-size}
-use Rattle.record.proofs.Loading.{accepted-grown}
+use Rattle.record.proofs.Size.{record_size}
+use Rattle.record.proofs.Loading.{accepted_grown}
 
 -- ---- the length and the version
 pub length_few : (bytes : List ℕ) → length bytes < 4 → false ≡ length_holds bytes
@@ -61,24 +61,24 @@ load_body bytes h v = rw (h, v)
 
 -- ---- save
 module _ (t : Trainer) (buf : List ℕ) where
-  pub save-bad : accepted_of t ≡ false → (Refused 10 ≡ save_of t buf) × (buf ≡ buffer_after t buf (save_of t buf))
+  pub save_bad : accepted_of t ≡ false → (Refused 10 ≡ save_of t buf) × (buf ≡ buffer_after t buf (save_of t buf))
   unfolding save_of buffer_after
-  save-bad a = (rw a, rw a)
+  save_bad a = (rw a, rw a)
 
   module _ (a : accepted_of t ≡ true) (full : length t.tree.nodes ≡ 513) (lay : Layout) (el : lay ≡ layout_of version) (n : ℕ)
       (e : n ≡ size_in lay t.tree.splits) where
     size : length (record_of t) ≡ n
-    size = record-size (layout_of version) version t (accepted-grown t a) full ∙ ap (λ (d : Layout). size_in d t.tree.splits) (sym el) ∙ sym e
+    size = record_size (layout_of version) version t (accepted_grown t a) full ∙ ap (λ (d : Layout). size_in d t.tree.splits) (sym el) ∙ sym e
 
-    pub save-short : length buf < n → (Refused 9 ≡ save_of t buf) × (buf ≡ buffer_after t buf (save_of t buf))
+    pub save_short : length buf < n → (Refused 9 ≡ save_of t buf) × (buf ≡ buffer_after t buf (save_of t buf))
     unfolding save_of buffer_after
-    save-short l =
+    save_short l =
         let q : leb (length (record_of t)) (length buf) ≡ false = lt-leb (length (record_of t)) (length buf) (omega (arith, size)) in
         (rw (a, q), rw (a, q))
 
-    pub save-taken : {r : List ℕ} → n ≤ length buf → r ≡ sets buf 0 (record_in lay version t) → (Size n ≡ save_of t buf) × (r ≡ buffer_after t buf (save_of t buf))
+    pub save_taken : {r : List ℕ} → n ≤ length buf → r ≡ sets buf 0 (record_in lay version t) → (Size n ≡ save_of t buf) × (r ≡ buffer_after t buf (save_of t buf))
     unfolding save_of buffer_after
-    save-taken l p =
+    save_taken l p =
         let q : leb (length (record_of t)) (length buf) ≡ true = le-leb (length (record_of t)) (length buf) (omega (arith, size)) in
         (rw (a, q, size), rw (a, q) (stored buf (record_of t) (omega (arith, size)) (p ∙ ap (λ (d : Layout). sets buf 0 (record_in d version t)) el)))
 
@@ -86,50 +86,50 @@ module _ (t : Trainer) (buf : List ℕ) where
 pub record_first : (l : List ℕ) (lay : Layout) (v : ℕ) (t : Trainer) (n : ℕ) {r : List ℕ} → grown_of t.tree ≡ true → length t.tree.nodes ≡ 513
     → n ≡ size_in lay t.tree.splits → length l ≡ 11076 → r ≡ sets l 0 (record_in lay v t) → take n r ≡ record_in lay v t
 record_first l lay v t n {r} g full e long p =
-    let c = record-size lay v t g full in
-    let m = size_most lay t.tree.splits (grown-splits t.tree g) in
+    let c = record_size lay v t g full in
+    let m = size_most lay t.tree.splits (grown_splits t.tree g) in
     ap (take n) (stored l (record_in lay v t) (omega arith) p) ∙ take_at (record_in lay v t) (drop (length (record_in lay v t)) l) n (c ∙ sym e)
 
 body_refused : (bytes : List ℕ) {r : Answered} → body_holds bytes ≡ false → r ≡ refuse 8 blank_trainer → r ≡ body_taken bytes
 body_refused bytes h e = e ∙ ap (λ (b : Bool). cond b (taken (read_of bytes)) (refuse 8 blank_trainer)) (sym h)
 
 module _ (bytes : List ℕ) (v : ℕ) (ev : v ≡ version_at bytes) (lay : Layout) (el : lay ≡ layout_of v) (s : ℕ) (es : s ≡ split_count lay bytes) where
-  lay-is : lay ≡ layout_of (version_at bytes)
-  lay-is = el ∙ ap layout_of ev
+  lay_is : lay ≡ layout_of (version_at bytes)
+  lay_is = el ∙ ap layout_of ev
 
-  pub body-over : {r : Answered} → 64 < s → r ≡ refuse 8 blank_trainer → r ≡ body_taken bytes
+  pub body_over : {r : Answered} → 64 < s → r ≡ refuse 8 blank_trainer → r ≡ body_taken bytes
   unfolding body_holds
-  body-over l e = body_refused bytes (ap (λ (b : Bool). b && same_bytes (again_of bytes) bytes) off) e
+  body_over l e = body_refused bytes (ap (λ (b : Bool). b && same_bytes (again_of bytes) bytes) off) e
     where
       off : accepted_of (read_of bytes) ≡ false
       off = false_of _ (λ a.
-          let f = grown-splits (read_of bytes).tree (accepted-grown (read_of bytes) a) in
-          let q : s ≡ (read_of bytes).tree.splits = es ∙ ap (λ (d : Layout). split_count d bytes) lay-is in
+          let f = grown_splits (read_of bytes).tree (accepted_grown (read_of bytes) a) in
+          let q : s ≡ (read_of bytes).tree.splits = es ∙ ap (λ (d : Layout). split_count d bytes) lay_is in
           omega arith)
 
   module _ (t : Trainer) (et : t ≡ trainer_at lay bytes s) where
     read_is : t ≡ read_of bytes
-    read_is = et ∙ ap (trainer_at lay bytes) es ∙ ap (λ (d : Layout). read_in d bytes) lay-is
+    read_is = et ∙ ap (trainer_at lay bytes) es ∙ ap (λ (d : Layout). read_in d bytes) lay_is
 
-    again-is : record_in lay v t ≡ again_of bytes
-    again-is =
-        ap (record_in lay v) read_is ∙ ap (λ (d : Layout). record_in d v (read_of bytes)) lay-is
+    again_is : record_in lay v t ≡ again_of bytes
+    again_is =
+        ap (record_in lay v) read_is ∙ ap (λ (d : Layout). record_in d v (read_of bytes)) lay_is
         ∙ ap (λ (n : ℕ). record_in (layout_of (version_at bytes)) n (read_of bytes)) ev
 
-    holds-is : accepted_of t && same_bytes (record_in lay v t) bytes ≡ body_holds bytes
+    holds_is : accepted_of t && same_bytes (record_in lay v t) bytes ≡ body_holds bytes
     unfolding body_holds
-    holds-is =
+    holds_is =
         ap (λ (u : Trainer). accepted_of u && same_bytes (record_in lay v t) bytes) read_is
-        ∙ ap (λ (r : List ℕ). accepted_of (read_of bytes) && same_bytes r bytes) again-is
+        ∙ ap (λ (r : List ℕ). accepted_of (read_of bytes) && same_bytes r bytes) again_is
 
-    pub body-not : {r : Answered} → accepted_of t ≡ false → r ≡ refuse 8 blank_trainer → r ≡ body_taken bytes
-    body-not a e = body_refused bytes (sym holds-is ∙ ap (λ (b : Bool). b && same_bytes (record_in lay v t) bytes) a) e
+    pub body_not : {r : Answered} → accepted_of t ≡ false → r ≡ refuse 8 blank_trainer → r ≡ body_taken bytes
+    body_not a e = body_refused bytes (sym holds_is ∙ ap (λ (b : Bool). b && same_bytes (record_in lay v t) bytes) a) e
 
-    pub body-other : {r : Answered} → accepted_of t ≡ true → same_bytes (record_in lay v t) bytes ≡ false → r ≡ refuse 8 blank_trainer → r ≡ body_taken bytes
-    body-other a m e = body_refused bytes (sym holds-is ∙ ap (λ (b : Bool). b && same_bytes (record_in lay v t) bytes) a ∙ m) e
+    pub body_other : {r : Answered} → accepted_of t ≡ true → same_bytes (record_in lay v t) bytes ≡ false → r ≡ refuse 8 blank_trainer → r ≡ body_taken bytes
+    body_other a m e = body_refused bytes (sym holds_is ∙ ap (λ (b : Bool). b && same_bytes (record_in lay v t) bytes) a ∙ m) e
 
     pub body_same : accepted_of t ≡ true → same_bytes (record_in lay v t) bytes ≡ true → taken t ≡ body_taken bytes
     body_same a m =
         ap taken read_is
         ∙ ap (λ (b : Bool). cond b (taken (read_of bytes)) (refuse 8 blank_trainer))
-        (sym (sym holds-is ∙ ap (λ (b : Bool). b && same_bytes (record_in lay v t) bytes) a ∙ m))
+        (sym (sym holds_is ∙ ap (λ (b : Bool). b && same_bytes (record_in lay v t) bytes) a ∙ m))

@@ -42,27 +42,27 @@ size_third s = omega arith
 
 -- ---- what the code tests, field by field
 module _ (lay : Layout) where
-  pub carries-leaf : (c : ℕ) → lay.parents ≡ false → eqb c 0 ≡ carries lay c
-  carries-leaf c e = ap (λ (b : Bool). b || eqb c 0) (sym e)
+  pub carries_leaf : (c : ℕ) → lay.parents ≡ false → eqb c 0 ≡ carries lay c
+  carries_leaf c e = ap (λ (b : Bool). b || eqb c 0) (sym e)
 
-  pub ends-all : lay.ends ≡ true → (24 ≡ ends_size lay) × (24 ≤ 24)
+  pub ends_all : lay.ends ≡ true → (24 ≡ ends_size lay) × (24 ≤ 24)
   unfolding ends_size
-  ends-all e = (ap (λ (b : Bool). cond b 24 0) (sym e), omega arith)
+  ends_all e = (ap (λ (b : Bool). cond b 24 0) (sym e), omega arith)
 
-  pub ends-none : lay.ends ≡ false → (0 ≡ ends_size lay) × (0 ≤ 24)
+  pub ends_none : lay.ends ≡ false → (0 ≡ ends_size lay) × (0 ≤ 24)
   unfolding ends_size
-  ends-none e = (ap (λ (b : Bool). cond b 24 0) (sym e), omega arith)
+  ends_none e = (ap (λ (b : Bool). cond b 24 0) (sym e), omega arith)
 
-  pub nodes-all : (s : ℕ) → lay.parents ≡ true → (1 + 8 * s ≡ nodes_in lay s) × (1 + 8 * s ≤ 1 + 8 * s)
+  pub nodes_all : (s : ℕ) → lay.parents ≡ true → (1 + 8 * s ≡ nodes_in lay s) × (1 + 8 * s ≤ 1 + 8 * s)
   unfolding nodes_in
-  nodes-all s e = (ap (λ (b : Bool). cond b (1 + 8 * s) (1 + 7 * s)) (sym e), omega arith)
+  nodes_all s e = (ap (λ (b : Bool). cond b (1 + 8 * s) (1 + 7 * s)) (sym e), omega arith)
 
-  pub nodes-leaves : (s : ℕ) → lay.parents ≡ false → (1 + 7 * s ≡ nodes_in lay s) × (1 + 7 * s ≤ 1 + 8 * s)
+  pub nodes_leaves : (s : ℕ) → lay.parents ≡ false → (1 + 7 * s ≡ nodes_in lay s) × (1 + 7 * s ≤ 1 + 8 * s)
   unfolding nodes_in
-  nodes-leaves s e = (ap (λ (b : Bool). cond b (1 + 8 * s) (1 + 7 * s)) (sym e), omega arith)
+  nodes_leaves s e = (ap (λ (b : Bool). cond b (1 + 8 * s) (1 + 7 * s)) (sym e), omega arith)
 
-  pub past-carried : (at c : ℕ) → carries lay c ≡ true → at + 21 ≡ at + 21 * cond (carries lay c) 1 0
-  past-carried at c e = ap (λ (b : Bool). at + 21 * cond b 1 0) (sym e)
+  pub past_carried : (at c : ℕ) → carries lay c ≡ true → at + 21 ≡ at + 21 * cond (carries lay c) 1 0
+  past_carried at c e = ap (λ (b : Bool). at + 21 * cond b 1 0) (sym e)
 
-  pub past-given : (at c : ℕ) → carries lay c ≡ false → at ≡ at + 21 * cond (carries lay c) 1 0
-  past-given at c e = (let z : at ≡ at + 0 = omega arith in z) ∙ ap (λ (b : Bool). at + 21 * cond b 1 0) (sym e)
+  pub past_given : (at c : ℕ) → carries lay c ≡ false → at ≡ at + 21 * cond (carries lay c) 1 0
+  past_given at c e = (let z : at ≡ at + 0 = omega arith in z) ∙ ap (λ (b : Bool). at + 21 * cond b 1 0) (sym e)

@@ -14,8 +14,8 @@ use Rattle.trainer.specs.declared.Trainer.{Trainer}
 use Rattle.trainer.specs.declared.Answered.{Answered}
 use Rattle.trainer.specs.State.{box_holds, accepted_of}
 use Rattle.trainer.proofs.Holds.{parts as settings_parts}
-pub use Rattle.trainer.proofs.AcceptedFacts.{accepted-grown}
-use Rattle.trainer.proofs.AcceptedFacts.{accepted-box, accepted-settings}
+pub use Rattle.trainer.proofs.AcceptedFacts.{accepted_grown}
+use Rattle.trainer.proofs.AcceptedFacts.{accepted_box, accepted_settings}
 use Rattle.trainer.specs.Phases.{refuse, taken}
 use Rattle.trainer.specs.Calls.{blank_trainer}
 use Rattle.wire.specs.Bytes.{bytes_of, number_at, same_bytes}
@@ -24,34 +24,34 @@ use Rattle.record.specs.Write.{version, body_in, record_in, record_of}
 use Rattle.record.specs.Read.{version_at, read_in, read_of}
 use Rattle.record.specs.Calls.{length_holds, version_holds, again_of, body_holds, load_of}
 use Rattle.wire.proofs.Bytes.{bytes_count, same_self, same_is}
-use Rattle.record.proofs.Size.{body-size, record-size, record-small}
-use Rattle.record.proofs.Stands.{stands_all, first, next, number-back, byte-back}
+use Rattle.record.proofs.Size.{body_size, record_size, record_small}
+use Rattle.record.proofs.Stands.{stands_all, first, next, number_back, byte_back}
 use Rattle.record.proofs.RoundTrip.{TrainerFits, Carried, carried_whole, read_back}
 
 -- ---- the ways through load
 module _ (bytes : List ℕ) where
-  pub load-short : length_holds bytes ≡ false → refuse 6 blank_trainer ≡ load_of bytes
+  pub load_short : length_holds bytes ≡ false → refuse 6 blank_trainer ≡ load_of bytes
   unfolding load_of
-  load-short h = rw h
+  load_short h = rw h
 
-  pub load-unknown : length_holds bytes ≡ true → version_holds bytes ≡ false → refuse 7 blank_trainer ≡ load_of bytes
+  pub load_unknown : length_holds bytes ≡ true → version_holds bytes ≡ false → refuse 7 blank_trainer ≡ load_of bytes
   unfolding load_of
-  load-unknown h v = rw (h, v)
+  load_unknown h v = rw (h, v)
 
-  pub load-bad : length_holds bytes ≡ true → version_holds bytes ≡ true → body_holds bytes ≡ false → refuse 8 blank_trainer ≡ load_of bytes
+  pub load_bad : length_holds bytes ≡ true → version_holds bytes ≡ true → body_holds bytes ≡ false → refuse 8 blank_trainer ≡ load_of bytes
   unfolding load_of
-  load-bad h v b = rw (h, v, b)
+  load_bad h v b = rw (h, v, b)
 
-  pub load-taken : length_holds bytes ≡ true → version_holds bytes ≡ true → body_holds bytes ≡ true → taken (read_of bytes) ≡ load_of bytes
+  pub load_taken : length_holds bytes ≡ true → version_holds bytes ≡ true → body_holds bytes ≡ true → taken (read_of bytes) ≡ load_of bytes
   unfolding load_of
-  load-taken h v b = rw (h, v, b)
+  load_taken h v b = rw (h, v, b)
 
 -- ---- an accepted trainer's tree has the settings' ends
 pub accepted_ends : (t : Trainer) → TrainerFits t → accepted_of t ≡ true → t.tree.ends ≡ t.settings.ends
 unfolding box_holds
 accepted_ends t f a =
-    ends_same t.tree.ends t.settings.ends f.tree.ends f.settings.ends (accepted-box t a)
-    (settings_parts t.settings (accepted-settings t a)).4
+    ends_same t.tree.ends t.settings.ends f.tree.ends f.settings.ends (accepted_box t a)
+    (settings_parts t.settings (accepted_settings t a)).4
 
 -- ---- what is written is taken back
 both : (x y : Bool) → x ≡ true → y ≡ true → (x && y) ≡ true
@@ -60,7 +60,7 @@ both false y p q = p
 
 module _ (v : ℕ) (k : known_of v ≡ true) (t : Trainer) (f : TrainerFits t) (a : accepted_of t ≡ true) (can : Carried (layout_of v) t) where
   g : grown_of t.tree ≡ true
-  g = accepted-grown t a
+  g = accepted_grown t a
 
   full : length t.tree.nodes ≡ 513
   full = f.tree.full
@@ -72,23 +72,23 @@ module _ (v : ℕ) (k : known_of v ≡ true) (t : Trainer) (f : TrainerFits t) (
   bytes = record_in (layout_of v) v t
 
   small : length bytes ≤ 11076
-  small = record-small (layout_of v) v t g full
+  small = record_small (layout_of v) v t g full
 
   parts : 4 + length body ≡ length bytes
-  parts = body-size (layout_of v) v t g full ∙ sym (record-size (layout_of v) v t g full)
+  parts = body_size (layout_of v) v t g full ∙ sym (record_size (layout_of v) v t g full)
 
   length_back : number_at bytes 0 4 ≡ length body
   unfolding record_in
   length_back =
-      number-back bytes 0 4 (length body) (omega (arith, small, parts))
+      number_back bytes 0 4 (length body) (omega (arith, small, parts))
       (first bytes 0 (bytes_of 4 (length body)) body (stands_all (record_in (layout_of v) v t)))
 
   some : 5 ≤ length bytes
-  some = let e = record-size (layout_of v) v t g full in omega arith
+  some = let e = record_size (layout_of v) v t g full in omega arith
 
-  written-length : length_holds bytes ≡ true
+  written_length : length_holds bytes ≡ true
   unfolding length_holds
-  written-length =
+  written_length =
       let s = small in
       let p = parts in
       let e : leb 4 (length bytes) ≡ true = le-leb 4 (length bytes) (omega arith) in
@@ -96,34 +96,34 @@ module _ (v : ℕ) (k : known_of v ≡ true) (t : Trainer) (f : TrainerFits t) (
       let q : eqb (length body) (length bytes - 4) ≡ true = eq-eqb (length body) (length bytes - 4) (omega arith) in
       rw (e, length_back, m, q)
 
-  version-back : version_at bytes ≡ v
+  version_back : version_at bytes ≡ v
   unfolding record_in
-  version-back =
-      byte-back bytes 4 v _
+  version_back =
+      byte_back bytes 4 v _
       (next bytes 0 4 (bytes_of 4 (length body)) body (bytes_count 4 (length body)) (stands_all (record_in (layout_of v) v t)))
 
   written_version : version_holds bytes ≡ true
   unfolding version_holds
-  written_version = both (leb 5 (length bytes)) (known_of (version_at bytes)) (le-leb 5 (length bytes) some) (ap known_of version-back ∙ k)
+  written_version = both (leb 5 (length bytes)) (known_of (version_at bytes)) (le-leb 5 (length bytes) some) (ap known_of version_back ∙ k)
 
   read_same : read_of bytes ≡ t
-  read_same = ap (λ (n : ℕ). read_in (layout_of n) bytes) version-back ∙ read_back (layout_of v) v t f g can
+  read_same = ap (λ (n : ℕ). read_in (layout_of n) bytes) version_back ∙ read_back (layout_of v) v t f g can
 
-  written-again : again_of bytes ≡ bytes
-  written-again = ap (λ (n : ℕ). record_in (layout_of n) n (read_of bytes)) version-back ∙ ap (record_in (layout_of v) v) read_same
+  written_again : again_of bytes ≡ bytes
+  written_again = ap (λ (n : ℕ). record_in (layout_of n) n (read_of bytes)) version_back ∙ ap (record_in (layout_of v) v) read_same
 
-  written-body : body_holds bytes ≡ true
+  written_body : body_holds bytes ≡ true
   unfolding body_holds
-  written-body =
+  written_body =
       both (accepted_of (read_of bytes)) (same_bytes (again_of bytes) bytes) (ap accepted_of read_same ∙ a)
-      (ap (λ (r : List ℕ). same_bytes r bytes) written-again ∙ same_self bytes)
+      (ap (λ (r : List ℕ). same_bytes r bytes) written_again ∙ same_self bytes)
 
   -- a trainer that a known version can carry is loaded from its record in that version
-  pub load-carried : load_of (record_in (layout_of v) v t) ≡ taken t
-  load-carried = sym (load-taken bytes written-length written_version written-body) ∙ ap taken read_same
+  pub load_carried : load_of (record_in (layout_of v) v t) ≡ taken t
+  load_carried = sym (load_taken bytes written_length written_version written_body) ∙ ap taken read_same
 
 pub load_saved : (t : Trainer) → TrainerFits t → accepted_of t ≡ true → load_of (record_of t) ≡ taken t
-load_saved t f a = load-carried version refl t f a (carried_whole (layout_of version) t refl refl (accepted_ends t f a))
+load_saved t f a = load_carried version refl t f a (carried_whole (layout_of version) t refl refl (accepted_ends t f a))
 
 -- ---- what is taken is written again as the same bytes
 pub record Loaded (bytes : List ℕ) (t : Trainer) : Type 0 where
@@ -146,17 +146,17 @@ load_again bytes t e = by (length_holds bytes) refl
     never : (k : ℕ) → refuse (k + 1) blank_trainer ≡ taken t → ⊥
     never k z = let q : k + 1 ≡ 0 = ap (λ (r : Answered). r.refused) z in omega arith
 
-    by-body : length_holds bytes ≡ true → version_holds bytes ≡ true → (b : Bool) → body_holds bytes ≡ b → Loaded bytes t
-    by-body h v true q = subst (Loaded bytes) (ap (λ (r : Answered). r.trainer) (load-taken bytes h v q ∙ e)) (load_found bytes v q)
-    by-body h v false q = absurd (never 7 (load-bad bytes h v q ∙ e))
+    by_body : length_holds bytes ≡ true → version_holds bytes ≡ true → (b : Bool) → body_holds bytes ≡ b → Loaded bytes t
+    by_body h v true q = subst (Loaded bytes) (ap (λ (r : Answered). r.trainer) (load_taken bytes h v q ∙ e)) (load_found bytes v q)
+    by_body h v false q = absurd (never 7 (load_bad bytes h v q ∙ e))
 
-    by-version : length_holds bytes ≡ true → (b : Bool) → version_holds bytes ≡ b → Loaded bytes t
-    by-version h true q = by-body h q (body_holds bytes) refl
-    by-version h false q = absurd (never 6 (load-unknown bytes h q ∙ e))
+    by_version : length_holds bytes ≡ true → (b : Bool) → version_holds bytes ≡ b → Loaded bytes t
+    by_version h true q = by_body h q (body_holds bytes) refl
+    by_version h false q = absurd (never 6 (load_unknown bytes h q ∙ e))
 
     by : (b : Bool) → length_holds bytes ≡ b → Loaded bytes t
-    by true q = by-version q (version_holds bytes) refl
-    by false q = absurd (never 5 (load-short bytes q ∙ e))
+    by true q = by_version q (version_holds bytes) refl
+    by false q = absurd (never 5 (load_short bytes q ∙ e))
 
 -- the bytes of the version that is saved are those that a save writes
 pub load_written : (bytes : List ℕ) (t : Trainer) → load_of bytes ≡ taken t → version_at bytes ≡ version → record_of t ≡ bytes

@@ -85,7 +85,7 @@ bits_nan_is b h = go (of_bits binary64 b) (sym (nan_bits_is binary64 b) ∙ h)
     go (inf s) e = absurd (never e)
     go (fin s m k) e = absurd (never e)
 
--- a pattern that is written again: no NaN's, or that one (plain-accepted, and back)
+-- a pattern that is written again: no NaN's, or that one (plain_accepted, and back)
 abbrev pub Plain : ℕ → Type 0
 Plain b = to_bits binary64 (of_bits binary64 b) ≡ b
 
@@ -94,28 +94,28 @@ unfolding nan_bits
 zero_number = refl
 
 module _ (b : ℕ) (l : b < 2 ^ 64) where
-  pub plain-number : nan_bits binary64 b ≡ false → Plain b
-  plain-number e = read_back b l e
+  pub plain_number : nan_bits binary64 b ≡ false → Plain b
+  plain_number e = read_back b l e
 
-  pub plain-accepted : nan_accepted b ≡ true → Plain b
-  plain-accepted h = go (nan_bits binary64 b) refl h
+  pub plain_accepted : nan_accepted b ≡ true → Plain b
+  plain_accepted h = go (nan_bits binary64 b) refl h
     where
       go : (n : Bool) → nan_bits binary64 b ≡ n → not n || eqb b 0x7ff8_0000_0000_0000 ≡ true → Plain b
-      go false e h = plain-number e
+      go false e h = plain_number e
       go true e h = ap (to_bits binary64) (bits_nan_is b e) ∙ nan_pattern ∙ sym (eqb-true b 0x7ff8_0000_0000_0000 h)
 
-  pub accepted-plain : Plain b → nan_accepted b ≡ true
-  accepted-plain p = go (nan_bits binary64 b) refl
+  pub accepted_plain : Plain b → nan_accepted b ≡ true
+  accepted_plain p = go (nan_bits binary64 b) refl
     where
       go : (n : Bool) → nan_bits binary64 b ≡ n → not n || eqb b 0x7ff8_0000_0000_0000 ≡ true
       go false e = refl
       go true e = eq-eqb b 0x7ff8_0000_0000_0000 (sym p ∙ ap (to_bits binary64) (bits_nan_is b e) ∙ nan_pattern)
 
-  pub plain-not-nan : (of_bits binary64 b ≡ nan → ⊥) → Plain b
-  plain-not-nan n = go (nan_bits binary64 b) refl
+  pub plain_not_nan : (of_bits binary64 b ≡ nan → ⊥) → Plain b
+  plain_not_nan n = go (nan_bits binary64 b) refl
     where
       go : (t : Bool) → nan_bits binary64 b ≡ t → Plain b
-      go false e = plain-number e
+      go false e = plain_number e
       go true e = absurd (n (bits_nan_is b e))
 
   -- "are 0": the float's bits are 0 where the field is
@@ -126,11 +126,11 @@ module _ (b : ℕ) (l : b < 2 ^ 64) where
       other z e = never (sym zero_number ∙ sym (ap (nan_bits binary64) z) ∙ e)
 
       go : (t : Bool) → nan_bits binary64 b ≡ t → eqb (to_bits binary64 (of_bits binary64 b)) 0 ≡ eqb b 0
-      go false e = ap (λ (k : ℕ). eqb k 0) (plain-number e)
+      go false e = ap (λ (k : ℕ). eqb k 0) (plain_number e)
       go true e = ap (λ (k : ℕ). eqb k 0) (ap (to_bits binary64) (bits_nan_is b e) ∙ nan_pattern) ∙ sym (ne_eqb b 0 (λ z. other z e))
 
 pub zero_plain : (b : ℕ) → b ≡ 0 → Plain b
-zero_plain b e = plain-number b (omega arith) (ap (nan_bits binary64) e ∙ zero_number)
+zero_plain b e = plain_number b (omega arith) (ap (nan_bits binary64) e ∙ zero_number)
 
 -- a float that is finite, above another, or equal to one is no NaN
 pub not_nan_finite : (x : Float) → finite x ≡ true → x ≡ nan → ⊥

@@ -35,22 +35,22 @@ module _ (one most end none0 some leaf0 leaf best0 number k0 listed listed' free
   abbrev tail : Bool
   tail = best0 && (k0 && (free && score0))
 
-  tail-is : best0 && (k0 && cond free score0 false) ≡ tail
-  tail-is = ap (λ (b : Bool). best0 && (k0 && b)) (free_is free score0)
+  tail_is : best0 && (k0 && cond free score0 false) ≡ tail
+  tail_is = ap (λ (b : Bool). best0 && (k0 && b)) (free_is free score0)
 
   early : (one && (most && none0)) && (leaf0 && (best0 && (k0 && cond free score0 false))) ≡ (one && (most && (none0 && (leaf0 && tail)))) && true
   early =
-      ap (λ (b : Bool). (one && (most && none0)) && (leaf0 && b)) tail-is
+      ap (λ (b : Bool). (one && (most && none0)) && (leaf0 && b)) tail_is
       ∙ and_assoc one (most && none0) (leaf0 && tail) ∙ ap (λ (b : Bool). one && b) (and_assoc most none0 (leaf0 && tail))
       ∙ sym (and-true (one && (most && (none0 && (leaf0 && tail)))))
 
   late : (end && none0) && (leaf0 && (best0 && (k0 && cond free score0 false))) ≡ (end && (none0 && (leaf0 && tail))) && true
   late =
-      ap (λ (b : Bool). (end && none0) && (leaf0 && b)) tail-is ∙ and_assoc end none0 (leaf0 && tail)
+      ap (λ (b : Bool). (end && none0) && (leaf0 && b)) tail_is ∙ and_assoc end none0 (leaf0 && tail)
       ∙ sym (and-true (end && (none0 && (leaf0 && tail))))
 
   scoring : (l : Bool) → (most && some) && (l && (best0 && (k0 && cond free score0 false))) ≡ ((most && some) && (l && tail)) && true
-  scoring l = ap (λ (b : Bool). (most && some) && (l && b)) tail-is ∙ sym (and-true ((most && some) && (l && tail)))
+  scoring l = ap (λ (b : Bool). (most && some) && (l && b)) tail_is ∙ sym (and-true ((most && some) && (l && tail)))
 
   trying : (t : Bool) → t && (leaf && (number && (listed && cond free score0 kept))) ≡ (t && (leaf && (listed' && cond free score0 kept))) && number
   trying false = refl

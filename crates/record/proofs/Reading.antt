@@ -93,26 +93,26 @@ module _ (lay : Layout) (a : Action) (bytes : List ℕ) (s : ℕ) where
         left = λ j l m. get_or-replicate 513 j x no_node m ∙ e;
       }
 
-  pub node-is : (i : ℕ) → i < node_count s → node_with lay a bytes (payload_place lay bytes s i) (link_of bytes (list_place lay) s i) ≡ node_at_place lay a bytes s i
+  pub node_is : (i : ℕ) → i < node_count s → node_with lay a bytes (payload_place lay bytes s i) (link_of bytes (list_place lay) s i) ≡ node_at_place lay a bytes s i
   unfolding node_at_place
-  node-is i l = rw (lt-ltb i (node_count s) l)
+  node_is i l = rw (lt-ltb i (node_count s) l)
 
-  count-more : (i : ℕ) → payload_place lay bytes s (i + 1) ≡ payload_place lay bytes s i + 21 * cond (carried_at lay bytes s i) 1 0
+  count_more : (i : ℕ) → payload_place lay bytes s (i + 1) ≡ payload_place lay bytes s i + 21 * cond (carried_at lay bytes s i) 1 0
   unfolding count_below
-  count-more i = rw (add-one i) (omega arith)
+  count_more i = rw (add-one i) (omega arith)
 
-  pub unused-is : (i : ℕ) → node_count s ≤ i → node_at_place lay a bytes s i ≡ blank_node
+  pub unused_is : (i : ℕ) → node_count s ≤ i → node_at_place lay a bytes s i ≡ blank_node
   unfolding node_at_place
-  unused-is i l = rw (le-ltb i (node_count s) l)
+  unused_is i l = rw (le-ltb i (node_count s) l)
 
   module _ (nodes : List Node) (at i : ℕ) where
-    pub gathered-more : (c : ℕ) (x : Node) {next : ℕ} → i < node_count s → s ≤ 64
+    pub gathered_more : (c : ℕ) (x : Node) {next : ℕ} → i < node_count s → s ≤ 64
         → Gathered lay a bytes s nodes at i → c ≡ link_of bytes (list_place lay) s i → x ≡ node_with lay a bytes at c → next ≡ at + 21 * cond (carries lay c) 1 0
         → Gathered lay a bytes s (set nodes i x) next (i + 1)
-    gathered-more c x {next} l few g ec ex en =
+    gathered_more c x {next} l few g ec ex en =
         record {
           long = length-set nodes i x ∙ g.long;
-          place = en ∙ ap (λ (k : ℕ). at + 21 * cond (carries lay k) 1 0) ec ∙ ap (λ (k : ℕ). k + 21 * cond (carried_at lay bytes s i) 1 0) g.place ∙ sym (count-more i);
+          place = en ∙ ap (λ (k : ℕ). at + 21 * cond (carries lay k) 1 0) ec ∙ ap (λ (k : ℕ). k + 21 * cond (carried_at lay bytes s i) 1 0) g.place ∙ sym (count_more i);
           done = λ j b.
               ⊎_elim
               (λ (p : j ≡ i). ap (λ (k : ℕ). node_at_of (set nodes i x) k) p ∙ get_or-set_same nodes i x no_node (omega (arith, g.long)) ∙ is ∙ ap (node_at_place lay a bytes s) (sym p))
@@ -122,19 +122,19 @@ module _ (lay : Layout) (a : Action) (bytes : List ℕ) (s : ℕ) where
         }
       where
         is : x ≡ node_at_place lay a bytes s i
-        is = ex ∙ ap (node_with lay a bytes at) ec ∙ ap (λ (k : ℕ). node_with lay a bytes k (link_of bytes (list_place lay) s i)) g.place ∙ node-is i l
+        is = ex ∙ ap (node_with lay a bytes at) ec ∙ ap (λ (k : ℕ). node_with lay a bytes k (link_of bytes (list_place lay) s i)) g.place ∙ node_is i l
 
-    pub gathered-all : node_count s ≤ i → Gathered lay a bytes s nodes at i → nodes ≡ tabulate 513 (node_at_place lay a bytes s)
-    gathered-all l g =
+    pub gathered_all : node_count s ≤ i → Gathered lay a bytes s nodes at i → nodes ≡ tabulate 513 (node_at_place lay a bytes s)
+    gathered_all l g =
         ext_get_or no_node nodes (tabulate 513 (node_at_place lay a bytes s)) (g.long ∙ sym (length_tabulate 513 (node_at_place lay a bytes s)))
         (λ j b.
         let m : j < 513 = omega (arith, g.long) in
-        ⊎_elim (λ (p : j < i). g.done j p) (λ (q : i ≤ j). g.left j q m ∙ sym (unused-is j (omega arith))) (below_or_not j i)
+        ⊎_elim (λ (p : j < i). g.done j p) (λ (q : i ≤ j). g.left j q m ∙ sym (unused_is j (omega arith))) (below_or_not j i)
         ∙ sym (get_d_tabulate 513 j (node_at_place lay a bytes s) no_node m))
 
     -- the place of a node's payload is no further than 144 + 128 + 21 * 513
-    pub gathered-near : s ≤ 64 → i ≤ 513 → Gathered lay a bytes s nodes at i → at ≤ 11045
-    gathered-near few l g = omega (arith, g.place, ends_few lay, count_below_le i (carried_at lay bytes s))
+    pub gathered_near : s ≤ 64 → i ≤ 513 → Gathered lay a bytes s nodes at i → at ≤ 11045
+    gathered_near few l g = omega (arith, g.place, ends_few lay, count_below_le i (carried_at lay bytes s))
 
 pub child_is : (bytes cs : List ℕ) (list to s i : ℕ) → cs ≡ tabulate 513 (link_of bytes list s) → list ≡ to → s ≤ 64 → i < node_count s
     → get_or cs i 0 ≡ link_of bytes to s i
@@ -148,20 +148,20 @@ module _ (lay : Layout) (a : Action) (bytes : List ℕ) (at c : ℕ) where
       cond b (node_holding (action_at bytes at) c (flag_at bytes (at + 20)))
       (node_holding a c false)
 
-  pub node-read : {x : Action} {m : Bool} → carries lay c ≡ true → x ≡ action_at bytes at → m ≡ flag_at bytes (at + 20)
+  pub node_read : {x : Action} {m : Bool} → carries lay c ≡ true → x ≡ action_at bytes at → m ≡ flag_at bytes (at + 20)
       → ◌≡◌ {A = Node} (node_holding x c m) (node_with lay a bytes at c)
-  node-read z p q = (λ j. node_holding (p j) c (q j)) ∙ ap node_by (sym z)
+  node_read z p q = (λ j. node_holding (p j) c (q j)) ∙ ap node_by (sym z)
 
-  pub node-given : carries lay c ≡ false → ◌≡◌ {A = Node} (node_holding a c false) (node_with lay a bytes at c)
-  node-given z = ap node_by (sym z)
+  pub node_given : carries lay c ≡ false → ◌≡◌ {A = Node} (node_holding a c false) (node_with lay a bytes at c)
+  node_given z = ap node_by (sym z)
 
 -- ---- the upper ends
 module _ (lay : Layout) (bytes : List ℕ) (at : ℕ) where
   pub ends_read : {p : Point} → lay.ends ≡ true → p ≡ point_at bytes at → p ≡ ends_at lay bytes at
   ends_read z e = e ∙ ap (λ (b : Bool). cond b (point_at bytes at) usual_ends) (sym z)
 
-  pub ends-given : {p : Point} → lay.ends ≡ false → p ≡ usual_ends → p ≡ ends_at lay bytes at
-  ends-given z e = e ∙ ap (λ (b : Bool). cond b (point_at bytes at) usual_ends) (sym z)
+  pub ends_given : {p : Point} → lay.ends ≡ false → p ≡ usual_ends → p ≡ ends_at lay bytes at
+  ends_given z e = e ∙ ap (λ (b : Bool). cond b (point_at bytes at) usual_ends) (sym z)
 
 -- ---- the settings, the trainer: from their fields
 pub settings_read : (lay : Layout) (bytes : List ℕ) (at : ℕ) {a b c : ℕ} {d : Bool} {e f g h k : Action} {p : Point} → a ≡ number_at bytes at 4 → b ≡ number_at bytes (at + 4) 4

@@ -11,7 +11,6 @@ use Rattle.refusal.specs.Guards.{test, guarded}
 use Rattle.rule_tree.specs.Grown.{grown_of}
 use Rattle.rule_tree.proofs.Owners.{below_or_not}
 use Rattle.rule_tree.proofs.Plain.{and_r}
-use Rattle.rule_tree_laws.proofs.Sound.{grown_sound}
 use Rattle.trainer.specs.declared.Trainer.{Trainer}
 use Rattle.trainer.specs.declared.Answered.{Answered}
 use Rattle.trainer.specs.Settings.{settings_hold}
@@ -25,7 +24,7 @@ use Rattle.record.specs.Calls.{length_holds, version_holds, load_of}
 use Rattle.record.specs.Accepted.{accepted_bytes}
 use Rattle.wire.proofs.Bytes.{never}
 use Rattle.record.proofs.RoundTrip.{TrainerFits, Carried, carried_whole}
-use Rattle.record.proofs.Loading.{accepted_ends, load-carried}
+use Rattle.record.proofs.Loading.{accepted_ends, load_carried}
 use Rattle.record.proofs.NumbersAgain.{Bytes}
 use Rattle.record.proofs.AcceptedBytes.{load_exactly}
 use Rattle.record.proofs.RecordBytes.{record_bytes_lem}
@@ -61,7 +60,7 @@ pub carried_accepted : (v : ℕ) → known_of v ≡ true → (t : Trainer) → T
 carried_accepted v k t f a can =
     let few = leb-true v _ (and_r (leb 1 v) _ k) in
     taken_accepted (record_in (layout_of v) v t) t
-    (record_bytes_lem (layout_of v) v t (omega arith) (let p = phase_few t a in omega arith)) (load-carried v k t f a can)
+    (record_bytes_lem (layout_of v) v t (omega arith) (let p = phase_few t a in omega arith)) (load_carried v k t f a can)
 
 pub saved_accepted : (t : Trainer) → TrainerFits t → accepted_of t ≡ true → accepted_bytes (record_of t) ≡ true
 saved_accepted t f a =

@@ -96,13 +96,13 @@ hit_good s x g =
     (same_or_not x 0)
 
 -- counted by splits, and counted by nodes
-parents-are : (s : ℕ) (xs : List ℕ) → ((i : ℕ) → i < length xs → Good s (get_or xs i 0)) → sum_below s (λ k. occurrences (8 * k + 1) xs) ≡ parents xs
+parents_are : (s : ℕ) (xs : List ℕ) → ((i : ℕ) → i < length xs → Good s (get_or xs i 0)) → sum_below s (λ k. occurrences (8 * k + 1) xs) ≡ parents xs
 unfolding occurrences
-parents-are s [] g = sum_none s (λ k. 0) (λ k l. refl)
-parents-are s (x ∷ xs) g =
+parents_are s [] g = sum_none s (λ k. 0) (λ k l. refl)
+parents_are s (x ∷ xs) g =
     let a = sum_add s (hit x) (λ k. occurrences (8 * k + 1) xs) in
     let b = hit_good s x (g 0 (omega arith)) in
-    let d = parents-are s xs (λ i l. g (suc i) (omega arith)) in
+    let d = parents_are s xs (λ i l. g (suc i) (omega arith)) in
     a ∙ (omega arith)
 
 -- ---- leaves
@@ -149,34 +149,34 @@ carried lay nodes i = carries lay (node_at_of nodes i).children
 
 module _ (t : RuleTree) (g : grown_of t ≡ true) (full : length t.nodes ≡ 513) where
   pub few : t.splits ≤ 64
-  few = links.grown-splits t g
+  few = links.grown_splits t g
 
-  parents-count : parents (children_of t.nodes) ≡ t.splits
-  parents-count =
+  parents_count : parents (children_of t.nodes) ≡ t.splits
+  parents_count =
       let m = length-map t.nodes (λ (x : Node). x.children) in
-      sym (parents-are t.splits (children_of t.nodes) (λ i l n.
-      let k = links.grown-link t g i (omega arith) n in (k.first, k.inside)))
-      ∙ sum_ones t.splits (λ k. occurrences (8 * k + 1) (children_of t.nodes)) (links.grown-occurs t g)
+      sym (parents_are t.splits (children_of t.nodes) (λ i l n.
+      let k = links.grown_link t g i (omega arith) n in (k.first, k.inside)))
+      ∙ sum_ones t.splits (λ k. occurrences (8 * k + 1) (children_of t.nodes)) (links.grown_occurs t g)
 
   -- 1 + 7 s leaves among the 1 + 8 s nodes
-  pub leaves-count : count_below (node_count t.splits) (is_leaf_of t.nodes) ≡ 1 + 7 * t.splits
-  leaves-count =
+  pub leaves_count : count_below (node_count t.splits) (is_leaf_of t.nodes) ≡ 1 + 7 * t.splits
+  leaves_count =
       let s = few in
       let m = length-map t.nodes (λ (x : Node). x.children) in
       let a = count_both t.nodes 513 (omega arith) in
-      let b = ap parents (take_all 513 (children_of t.nodes) (omega arith)) ∙ parents-count in
+      let b = ap parents (take_all 513 (children_of t.nodes) (omega arith)) ∙ parents_count in
       let d = count_tail (is_leaf_of t.nodes) (node_count t.splits) 513 (omega arith)
-      (λ i x y. eq-eqb _ 0 (links.grown-unused-leaf t g i x y)) in
+      (λ i x y. eq-eqb _ 0 (links.grown_unused_leaf t g i x y)) in
       omega arith
 
   -- the nodes that a layout carries
-  pub carried-count : (lay : Layout) → count_below (node_count t.splits) (carried lay t.nodes) ≡ nodes_in lay t.splits
+  pub carried_count : (lay : Layout) → count_below (node_count t.splits) (carried lay t.nodes) ≡ nodes_in lay t.splits
   unfolding nodes_in
-  carried-count lay = go lay.parents
+  carried_count lay = go lay.parents
     where
       go : (b : Bool) → count_below (node_count t.splits) (λ i. b || is_leaf_of t.nodes i) ≡ cond b (1 + 8 * t.splits) (1 + 7 * t.splits)
       go true = count_every (λ i. true) (node_count t.splits) (λ i. refl)
-      go false = leaves-count
+      go false = leaves_count
 
 -- ---- the parts of a record
 node_length : (b : Bool) (x : Node) → length (cond b (node_bytes x) []) ≡ 21 * cond b 1 0
@@ -212,38 +212,38 @@ joined_count : (v : ℕ) (a b c d e : List ℕ)
 joined_count v a b c d e = simp length-append (omega arith)
 
 module _ (lay : Layout) (v : ℕ) (t : Trainer) (g : grown_of t.tree ≡ true) (full : length t.tree.nodes ≡ 513) where
-  pub nodes-length : length (payload_bytes lay t.tree.nodes (node_count t.tree.splits)) ≡ 21 * nodes_in lay t.tree.splits
-  nodes-length =
-      payload_count lay t.tree.nodes (node_count t.tree.splits) ∙ ap (λ (k : ℕ). 21 * k) (carried-count t.tree g full lay)
+  pub nodes_length : length (payload_bytes lay t.tree.nodes (node_count t.tree.splits)) ≡ 21 * nodes_in lay t.tree.splits
+  nodes_length =
+      payload_count lay t.tree.nodes (node_count t.tree.splits) ∙ ap (λ (k : ℕ). 21 * k) (carried_count t.tree g full lay)
 
-  pub body-size : 4 + length (body_in lay v t) ≡ size_in lay t.tree.splits
-  body-size =
+  pub body_size : 4 + length (body_in lay v t) ≡ size_in lay t.tree.splits
+  body_size =
       let a = settings_count t.settings in
       let b = ends_count lay t.settings in
       let d = splits_count t.tree (few t.tree g full) in
-      let e = nodes-length in
+      let e = nodes_length in
       let f = state_count t in
       let j = joined_count v (settings_bytes t.settings) (end_bytes lay t.settings) (splits_bytes t.tree) (payload_bytes lay t.tree.nodes (node_count t.tree.splits)) (state_bytes t) in
       ap (λ (k : ℕ). 4 + k) j ∙ (omega arith)
 
-  pub record-size : length (record_in lay v t) ≡ size_in lay t.tree.splits
+  pub record_size : length (record_in lay v t) ≡ size_in lay t.tree.splits
   unfolding record_in
-  record-size = length-append (bytes_of 4 (length (body_in lay v t))) (body_in lay v t) ∙ ap (λ (k : ℕ). k + length (body_in lay v t)) (bytes_count 4 (length (body_in lay v t))) ∙ body-size
+  record_size = length-append (bytes_of 4 (length (body_in lay v t))) (body_in lay v t) ∙ ap (λ (k : ℕ). k + length (body_in lay v t)) (bytes_count 4 (length (body_in lay v t))) ∙ body_size
 
   -- no record has more bytes than 11,076, whatever its layout
-  pub record-small : length (record_in lay v t) ≤ 11076
-  record-small = let e = record-size in let m = size_most lay t.tree.splits (few t.tree g full) in omega arith
+  pub record_small : length (record_in lay v t) ≤ 11076
+  record_small = let e = record_size in let m = size_most lay t.tree.splits (few t.tree g full) in omega arith
 
 module _ (t : Trainer) (g : grown_of t.tree ≡ true) (full : length t.tree.nodes ≡ 513) where
   -- a record of s splits has 196 + 170 s bytes
-  pub record-count : length (record_of t) ≡ 196 + 170 * t.tree.splits
-  record-count = record-size (layout_of version) version t g full ∙ size_third t.tree.splits
+  pub record_count : length (record_of t) ≡ 196 + 170 * t.tree.splits
+  record_count = record_size (layout_of version) version t g full ∙ size_third t.tree.splits
 
-  pub record-fresh : t.tree.splits ≡ 0 → length (record_of t) ≡ 196
-  record-fresh e = let h = record-count in omega arith
+  pub record_fresh : t.tree.splits ≡ 0 → length (record_of t) ≡ 196
+  record_fresh e = let h = record_count in omega arith
 
-  pub record-most : t.tree.splits ≡ 64 → length (record_of t) ≡ 11076
-  record-most e = let h = record-count in omega arith
+  pub record_most : t.tree.splits ≡ 64 → length (record_of t) ≡ 11076
+  record_most e = let h = record_count in omega arith
 
 -- ---- the record, part after part
 wrote0 : (l m : List ℕ) (n : ℕ) (xs ys : List ℕ) {r : List ℕ} → r ≡ sets m n ys → m ≡ sets l 0 xs → length xs ≡ n → r ≡ sets l 0 (xs ++ ys)
@@ -253,14 +253,14 @@ regroup : (b v s e p q r : List ℕ) → (((((b ++ v) ++ s) ++ e) ++ p) ++ q) ++
 regroup b v s e p q r = simp append_assoc
 
 module _ (l : List ℕ) (lay : Layout) (v : ℕ) (t : Trainer) (g : grown_of t.tree ≡ true) (full : length t.tree.nodes ≡ 513) where
-  pub record-written : (n after at : ℕ) {l1 l2 l3 l4 l5 l6 : List ℕ} → 4 + n ≡ size_in lay t.tree.splits → l1 ≡ sets l 0 (bytes_of 4 n)
+  pub record_written : (n after at : ℕ) {l1 l2 l3 l4 l5 l6 : List ℕ} → 4 + n ≡ size_in lay t.tree.splits → l1 ≡ sets l 0 (bytes_of 4 n)
       → l2 ≡ sets (set l1 4 v) 5 (settings_bytes t.settings) → l3 ≡ sets l2 118 (end_bytes lay t.settings) → after ≡ 118 + ends_size lay
       → l4 ≡ sets l3 after (splits_bytes t.tree)
       → l5 ≡ sets l4 (after + 2 + 2 * t.tree.splits) (payload_bytes lay t.tree.nodes (node_count t.tree.splits))
       → at ≡ after + 2 + 2 * t.tree.splits + length (payload_bytes lay t.tree.nodes (node_count t.tree.splits))
       → l6 ≡ sets l5 at (state_bytes t) → l6 ≡ sets l 0 (record_in lay v t)
   unfolding record_in
-  record-written n after at {l1} {l2} {l3} {l4} {l5} {l6} en p q r ef s u ea w =
+  record_written n after at {l1} {l2} {l3} {l4} {l5} {l6} en p q r ef s u ea w =
       let b = bytes_of 4 n in
       let o = v ∷ [] in
       let x = settings_bytes t.settings in
@@ -282,5 +282,5 @@ module _ (l : List ℕ) (lay : Layout) (v : ℕ) (t : Trainer) (g : grown_of t.t
       let w4 = wrote0 l l3 after (((b ++ o) ++ x) ++ d) y s w3 e3 in
       let w5 = wrote0 l l4 (after + 2 + 2 * t.tree.splits) ((((b ++ o) ++ x) ++ d) ++ y) z u w4 e4 in
       let w6 = wrote0 l l5 at (((((b ++ o) ++ x) ++ d) ++ y) ++ z) (state_bytes t) w w5 e5 in
-      let size = body-size lay v t g full in
+      let size = body_size lay v t g full in
       w6 ∙ ap (sets l 0) (regroup b o x d y z (state_bytes t)) ∙ ap (λ (k : ℕ). sets l 0 (bytes_of 4 k ++ body_in lay v t)) (omega arith)

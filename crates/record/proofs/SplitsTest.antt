@@ -14,7 +14,7 @@ use Rattle.rule_tree.specs.Lists.{occurrences, tabulate}
 use Rattle.rule_tree.specs.Nodes.{node_count, children_of}
 use Rattle.rule_tree.specs.Grown.{link_holds, owners_of, linked_of, grown_of}
 use Rattle.rule_tree.proofs.Lists.{all_below_at, all_below_all, get_d_tabulate}
-use Rattle.rule_tree.proofs.LinkWays.{children_count, linked-ones}
+use Rattle.rule_tree.proofs.LinkWays.{children_count, linked_ones}
 use Rattle.rule_tree.proofs.Owners.{same_or_not}
 use Rattle.rule_tree.proofs.Plain.{and_l, and_r}
 use Rattle.rule_tree.proofs.Changing.{occurrences_none}
@@ -23,8 +23,8 @@ use Rattle.record.specs.declared.inner.layout.Layout.{Layout}
 use Rattle.record.specs.Layout.{list_place}
 use Rattle.record.specs.Read.{split_at_place, link_of, node_at_place, tree_at}
 use Rattle.record.specs.Accepted.{split_accepted, splits_accepted}
-use Rattle.record.proofs.LinksRead.{link_leaf, link-last, link-free, link-named, link-node}
-use Rattle.record.proofs.TreeRead.{nodes-long, child-used, child-parent}
+use Rattle.record.proofs.LinksRead.{link_leaf, link_last, link_free, link_named, link_node}
+use Rattle.record.proofs.TreeRead.{nodes_long, child_used, child_parent}
 
 -- ---- a number that stands at one place of a list
 once_stands : (f : ℕ) (cs : List ℕ) (at : ℕ) → at < length cs → get_or cs at 0 ≡ f → ((j : ℕ) → j < length cs → get_or cs j 0 ≡ f → j ≡ at)
@@ -55,27 +55,27 @@ module _ (lay : Layout) (a : Action) (bytes : List ℕ) (s : ℕ) (few : s ≤ 6
     unfolding splits_accepted
     split_at k l = all_below_at s k (split_accepted bytes list) h l
 
-    split-low : (k : ℕ) → k < s → split_at_place bytes list k < node_count k
+    split_low : (k : ℕ) → k < s → split_at_place bytes list k < node_count k
     unfolding split_accepted
-    split-low k l = ltb-true _ _ (and_l (ltb (split_at_place bytes list k) (node_count k)) _ (split_at k l))
+    split_low k l = ltb-true _ _ (and_l (ltb (split_at_place bytes list k) (node_count k)) _ (split_at k l))
 
-    split-leaf : (k : ℕ) → k < s → link_of bytes list k (split_at_place bytes list k) ≡ 0
+    split_leaf : (k : ℕ) → k < s → link_of bytes list k (split_at_place bytes list k) ≡ 0
     unfolding split_accepted
-    split-leaf k l = eqb-true _ _ (and_r (ltb (split_at_place bytes list k) (node_count k)) _ (split_at k l))
+    split_leaf k l = eqb-true _ _ (and_r (ltb (split_at_place bytes list k) (node_count k)) _ (split_at k l))
 
     -- so that no two splits name the same node
-    split-link : (k : ℕ) → k < s → link_of bytes list s (split_at_place bytes list k) ≡ 8 * k + 1
-    split-link k l =
-        link-last bytes list s (split_at_place bytes list k) k l refl
-        (λ m b d e. link-free bytes list m (split_at_place bytes list m) (split-leaf m d) k b (sym e))
+    split_link : (k : ℕ) → k < s → link_of bytes list s (split_at_place bytes list k) ≡ 8 * k + 1
+    split_link k l =
+        link_last bytes list s (split_at_place bytes list k) k l refl
+        (λ m b d e. link_free bytes list m (split_at_place bytes list m) (split_leaf m d) k b (sym e))
 
-    link-good : (i : ℕ) → i < 513 → link_holds s (get_or cs i 0) i ≡ true
-    link-good i l =
+    link_good : (i : ℕ) → i < 513 → link_holds s (get_or cs i 0) i ≡ true
+    link_good i l =
         ⊎_elim (λ (z : get_or cs i 0 ≡ 0). links.link_leaf s (get_or cs i 0) i z)
         (λ (n : get_or cs i 0 ≡ 0 → ⊥).
-        let e = child-used lay a bytes s few i (child-parent lay a bytes s few i n) in
-        let r = link-named bytes list s i (λ z. n (e ∙ z)) in
-        let low = split-low r.by r.below in
+        let e = child_used lay a bytes s few i (child_parent lay a bytes s few i n) in
+        let r = link_named bytes list s i (λ z. n (e ∙ z)) in
+        let low = split_low r.by r.below in
         links.link_holds_lem s (get_or cs i 0) i
         (record {
           first = omega (arith, r.link);
@@ -84,44 +84,44 @@ module _ (lay : Layout) (a : Action) (bytes : List ℕ) (s : ℕ) (few : s ≤ 6
         }))
         (same_or_not (get_or cs i 0) 0)
 
-    one-owner : (k : ℕ) → k < s → occurrences (8 * k + 1) cs ≡ 1
-    one-owner k l =
-        let low = split-low k l in
+    one_owner : (k : ℕ) → k < s → occurrences (8 * k + 1) cs ≡ 1
+    one_owner k l =
+        let low = split_low k l in
         let at = split_at_place bytes list k in
-        once_stands (8 * k + 1) cs at (omega (arith, children_count nodes, (nodes-long lay a bytes s few))) (child-used lay a bytes s few at (omega arith) ∙ split-link k l)
+        once_stands (8 * k + 1) cs at (omega (arith, children_count nodes, (nodes_long lay a bytes s few))) (child_used lay a bytes s few at (omega arith) ∙ split_link k l)
         (λ j b e.
-        let u = child-used lay a bytes s few j (child-parent lay a bytes s few j (λ z. omega (arith, e, z))) in
-        sym (link-node bytes list s j k (sym u ∙ e)))
+        let u = child_used lay a bytes s few j (child_parent lay a bytes s few j (λ z. omega (arith, e, z))) in
+        sym (link_node bytes list s j k (sym u ∙ e)))
 
-    pub splits-linked : linked_of cs s ≡ true
-    splits-linked =
-        sym (linked-ones cs s few (all_below_all 513 (λ i. link_holds s (get_or cs i 0) i) link-good))
+    pub splits_linked : linked_of cs s ≡ true
+    splits_linked =
+        sym (linked_ones cs s few (all_below_all 513 (λ i. link_holds s (get_or cs i 0) i) link_good))
         ∙ all_below_all s (λ k. eqb (get_or (owners_of cs) k 0) 1)
-        (λ k l. eq-eqb _ 1 (get_d_tabulate 64 k (λ k. occurrences (8 * k + 1) cs) 0 (omega arith) ∙ one-owner k l))
+        (λ k l. eq-eqb _ 1 (get_d_tabulate 64 k (λ k. occurrences (8 * k + 1) cs) 0 (omega arith) ∙ one_owner k l))
 
   -- ---- and back
   module _ (g : grown_of (tree_at lay a bytes s) ≡ true) where
-    pub owner-node : (k : ℕ) (l : k < s) → split_at_place bytes list k ≡ (links.grown-owner (tree_at lay a bytes s) g (nodes-long lay a bytes s few) k l).at
-    owner-node k l =
-        let o = links.grown-owner (tree_at lay a bytes s) g (nodes-long lay a bytes s few) k l in
-        link-node bytes list s o.at k (sym (child-used lay a bytes s few o.at (omega (arith, o.low))) ∙ o.is)
+    pub owner_node : (k : ℕ) (l : k < s) → split_at_place bytes list k ≡ (links.grown_owner (tree_at lay a bytes s) g (nodes_long lay a bytes s few) k l).at
+    owner_node k l =
+        let o = links.grown_owner (tree_at lay a bytes s) g (nodes_long lay a bytes s few) k l in
+        link_node bytes list s o.at k (sym (child_used lay a bytes s few o.at (omega (arith, o.low))) ∙ o.is)
 
-    owner-link : (k : ℕ) → k < s → get_or cs (split_at_place bytes list k) 0 ≡ 8 * k + 1
-    owner-link k l = ap (λ (i : ℕ). get_or cs i 0) (owner-node k l) ∙ (links.grown-owner (tree_at lay a bytes s) g (nodes-long lay a bytes s few) k l).is
+    owner_link : (k : ℕ) → k < s → get_or cs (split_at_place bytes list k) 0 ≡ 8 * k + 1
+    owner_link k l = ap (λ (i : ℕ). get_or cs i 0) (owner_node k l) ∙ (links.grown_owner (tree_at lay a bytes s) g (nodes_long lay a bytes s few) k l).is
 
     split_good : (k : ℕ) → k < s → split_accepted bytes list k ≡ true
     unfolding split_accepted
     split_good k l =
-        let o = links.grown-owner (tree_at lay a bytes s) g (nodes-long lay a bytes s few) k l in
-        let e = owner-node k l in
+        let o = links.grown_owner (tree_at lay a bytes s) g (nodes_long lay a bytes s few) k l in
+        let e = owner_node k l in
         rw (lt-ltb (split_at_place bytes list k) (node_count k) (omega (arith, o.low)))
         (eq-eqb _ 0 (link_leaf bytes list k (split_at_place bytes list k)
         (λ j b z.
-        let p = owner-link j (omega arith) in
-        let q = owner-link k l in
+        let p = owner_link j (omega arith) in
+        let q = owner_link k l in
         let w : get_or cs (split_at_place bytes list j) 0 ≡ get_or cs (split_at_place bytes list k) 0 = ap (λ (i : ℕ). get_or cs i 0) z in
         omega arith)))
 
-    pub linked-splits : splits_accepted lay bytes s ≡ true
+    pub linked_splits : splits_accepted lay bytes s ≡ true
     unfolding splits_accepted
-    linked-splits = all_below_all s (split_accepted bytes list) split_good
+    linked_splits = all_below_all s (split_accepted bytes list) split_good

@@ -61,26 +61,26 @@ module _ (bytes : List ℕ) where
   onward at m n k x y e f h = moved (at + m + n) (at + k) y (omega arith) (next (at + m) n x y e h)
 
   -- ---- reading
-  pub number-back : (at n x : ℕ) → x < 256 ^ n → Stands bytes at (bytes_of n x) → number_at bytes at n ≡ x
-  number-back at n x l h = number_stands bytes at n x h.rest l h.is
+  pub number_back : (at n x : ℕ) → x < 256 ^ n → Stands bytes at (bytes_of n x) → number_at bytes at n ≡ x
+  number_back at n x l h = number_stands bytes at n x h.rest l h.is
 
-  pub byte-back : (at b : ℕ) (y : List ℕ) → Stands bytes at (b ∷ y) → get_or bytes at 0 ≡ b
-  byte-back at b y h =
+  pub byte_back : (at b : ℕ) (y : List ℕ) → Stands bytes at (b ∷ y) → get_or bytes at 0 ≡ b
+  byte_back at b y h =
       ap (λ (k : ℕ). get_or bytes k 0) (let e : at ≡ at + 0 = omega arith in e) ∙ sym (get_or-drop at bytes 0 0)
       ∙ ap (λ (r : List ℕ). get_or r 0 0) h.is
 
-  pub flag-back : (at : ℕ) (b : Bool) (y : List ℕ) → Stands bytes at (flag_byte b ∷ y) → flag_at bytes at ≡ b
-  flag-back at b y h = ap (λ (k : ℕ). eqb k 1) (byte-back at (flag_byte b) y h) ∙ same b
+  pub flag_back : (at : ℕ) (b : Bool) (y : List ℕ) → Stands bytes at (flag_byte b ∷ y) → flag_at bytes at ≡ b
+  flag_back at b y h = ap (λ (k : ℕ). eqb k 1) (byte_back at (flag_byte b) y h) ∙ same b
     where
       same : (b : Bool) → eqb (flag_byte b) 1 ≡ b
       same true = refl
       same false = refl
 
   pub float_back : (at : ℕ) (x : Float) → T (fits binary64 x) → Stands bytes at (float_bytes x) → float_at bytes at ≡ x
-  float_back at x f h = ap (of_bits binary64) (number-back at 8 (to_bits binary64 x) (bits_below x f) h) ∙ bits_back x f
+  float_back at x f h = ap (of_bits binary64) (number_back at 8 (to_bits binary64 x) (bits_below x f) h) ∙ bits_back x f
 
-  pub action-back : (at : ℕ) (a : Action) → ActionFits a → Stands bytes at (action_bytes a) → action_at bytes at ≡ a
-  action-back at a f h =
+  pub action_back : (at : ℕ) (a : Action) → ActionFits a → Stands bytes at (action_bytes a) → action_at bytes at ≡ a
+  action_back at a f h =
       let m = float_bytes a.window_multiplier in
       let i = bytes_of 4 (of_z w32 a.window_increment) in
       let d = float_bytes a.intersend_delay.0 in
@@ -88,13 +88,13 @@ module _ (bytes : List ℕ) where
       let h12 = onward at 8 4 12 i d (bytes_count 4 _) refl h8 in
       let p = float_back at a.window_multiplier f.multiplier (first at m (i ++ d) h) in
       let q =
-      ap (to_z w32) (number-back (at + 8) 4 (of_z w32 a.window_increment) (of_z_fits w32 a.window_increment f.increment).fits (first (at + 8) i d h8))
+      ap (to_z w32) (number_back (at + 8) 4 (of_z w32 a.window_increment) (of_z_fits w32 a.window_increment f.increment).fits (first (at + 8) i d h8))
       ∙ to_z-of_z w32 a.window_increment f.increment in
       let r = float_back (at + 12) a.intersend_delay.0 f.delay h12 in
       λ j. record { window_multiplier = p j; window_increment = q j; intersend_delay = record { 0 = r j } }
 
-  pub point-back : (at : ℕ) (p : Point) → PointFits p → Stands bytes at (point_bytes p) → point_at bytes at ≡ p
-  point-back at p f h =
+  pub point_back : (at : ℕ) (p : Point) → PointFits p → Stands bytes at (point_bytes p) → point_at bytes at ≡ p
+  point_back at p f h =
       let a = float_bytes p.ack_ewma.0 in
       let s = float_bytes p.send_ewma.0 in
       let r = float_bytes p.rtt_ratio in
@@ -106,25 +106,25 @@ module _ (bytes : List ℕ) where
       λ j. record { ack_ewma = record { 0 = x j }; send_ewma = record { 0 = y j }; rtt_ratio = z j }
 
   -- ---- a list of numbers, and the nodes' part
-  pub list-stands : (at k : ℕ) (xs : List ℕ) → k < length xs → Stands bytes at (numbers_bytes xs) → Stands bytes (at + 2 * k) (bytes_of 2 (get_or xs k 0))
+  pub list_stands : (at k : ℕ) (xs : List ℕ) → k < length xs → Stands bytes at (numbers_bytes xs) → Stands bytes (at + 2 * k) (bytes_of 2 (get_or xs k 0))
   unfolding numbers_bytes
-  list-stands at k [] l h = absurd (omega arith)
-  list-stands at zero (x ∷ xs) l h = moved at (at + 2 * 0) (bytes_of 2 x) (omega arith) (first at (bytes_of 2 x) (numbers_bytes xs) h)
-  list-stands at (suc k) (x ∷ xs) l h =
+  list_stands at k [] l h = absurd (omega arith)
+  list_stands at zero (x ∷ xs) l h = moved at (at + 2 * 0) (bytes_of 2 x) (omega arith) (first at (bytes_of 2 x) (numbers_bytes xs) h)
+  list_stands at (suc k) (x ∷ xs) l h =
       moved (at + 2 + 2 * k) (at + 2 * suc k) (bytes_of 2 (get_or xs k 0)) (omega arith)
-      (list-stands (at + 2) k xs (omega arith) (next at 2 (bytes_of 2 x) (numbers_bytes xs) (bytes_count 2 x) h))
+      (list_stands (at + 2) k xs (omega arith) (next at 2 (bytes_of 2 x) (numbers_bytes xs) (bytes_count 2 x) h))
 
-  pub node-stands : (lay : Layout) (at : ℕ) (nodes : List Node) (i n : ℕ) → i < n → carried lay nodes i ≡ true → Stands bytes at (payload_bytes lay nodes n)
+  pub node_stands : (lay : Layout) (at : ℕ) (nodes : List Node) (i n : ℕ) → i < n → carried lay nodes i ≡ true → Stands bytes at (payload_bytes lay nodes n)
       → Stands bytes (at + 21 * count_below i (carried lay nodes)) (node_bytes (node_at_of nodes i))
-  node-stands lay at nodes i zero l e h = absurd (omega arith)
-  node-stands lay at nodes i (suc n) l e h =
+  node_stands lay at nodes i zero l e h = absurd (omega arith)
+  node_stands lay at nodes i (suc n) l e h =
       let g = subst (Stands bytes at) (payload_suc lay nodes n) h in
       ⊎_elim
       (λ (p : i ≡ n).
       subst (λ (b : Bool). Stands bytes (at + 21 * count_below i (carried lay nodes)) (cond b (node_bytes (node_at_of nodes i)) [])) e
       (subst (λ (k : ℕ). Stands bytes (at + 21 * count_below k (carried lay nodes)) (node_fields lay (node_at_of nodes k))) (sym p)
       (next at (21 * count_below n (carried lay nodes)) (payload_bytes lay nodes n) (node_fields lay (node_at_of nodes n)) (payload_count lay nodes n) g)))
-      (λ (q : i < n). node-stands lay at nodes i n q e (first at (payload_bytes lay nodes n) (node_fields lay (node_at_of nodes n)) g))
+      (λ (q : i < n). node_stands lay at nodes i n q e (first at (payload_bytes lay nodes n) (node_fields lay (node_at_of nodes n)) g))
       (eq-or-lt_of_le (let q : i ≤ n = omega arith in q))
 
 -- ---- the settings
@@ -160,12 +160,12 @@ settings_back lay bytes at s f h e =
     let h73 = onward bytes at 53 20 73 r (u ++ v) (action_count s.initial_action_change) refl h53 in
     let h93 = onward bytes at 73 20 93 u v (action_count s.max_action_change) refl h73 in
     settings_read lay bytes at
-    (sym (number-back bytes at 4 _ f.splits (first bytes at a (b ++ (d ++ (w ++ (p ++ (q ++ (r ++ (u ++ v))))))) h)))
-    (sym (number-back bytes (at + 4) 4 _ f.rounds (first bytes (at + 4) b (d ++ (w ++ (p ++ (q ++ (r ++ (u ++ v)))))) h4)))
-    (sym (number-back bytes (at + 8) 4 _ f.multiplier (first bytes (at + 8) d (w ++ (p ++ (q ++ (r ++ (u ++ v))))) h8)))
-    (sym (flag-back bytes (at + 12) s.drill_down (p ++ (q ++ (r ++ (u ++ v)))) h12))
-    (sym (action-back bytes (at + 13) _ f.min (first bytes (at + 13) p (q ++ (r ++ (u ++ v))) h13)))
-    (sym (action-back bytes (at + 33) _ f.max (first bytes (at + 33) q (r ++ (u ++ v)) h33)))
-    (sym (action-back bytes (at + 53) _ f.initial (first bytes (at + 53) r (u ++ v) h53)))
-    (sym (action-back bytes (at + 73) _ f.most (first bytes (at + 73) u v h73)))
-    (sym (action-back bytes (at + 93) _ f.default h93)) e
+    (sym (number_back bytes at 4 _ f.splits (first bytes at a (b ++ (d ++ (w ++ (p ++ (q ++ (r ++ (u ++ v))))))) h)))
+    (sym (number_back bytes (at + 4) 4 _ f.rounds (first bytes (at + 4) b (d ++ (w ++ (p ++ (q ++ (r ++ (u ++ v)))))) h4)))
+    (sym (number_back bytes (at + 8) 4 _ f.multiplier (first bytes (at + 8) d (w ++ (p ++ (q ++ (r ++ (u ++ v))))) h8)))
+    (sym (flag_back bytes (at + 12) s.drill_down (p ++ (q ++ (r ++ (u ++ v)))) h12))
+    (sym (action_back bytes (at + 13) _ f.min (first bytes (at + 13) p (q ++ (r ++ (u ++ v))) h13)))
+    (sym (action_back bytes (at + 33) _ f.max (first bytes (at + 33) q (r ++ (u ++ v)) h33)))
+    (sym (action_back bytes (at + 53) _ f.initial (first bytes (at + 53) r (u ++ v) h53)))
+    (sym (action_back bytes (at + 73) _ f.most (first bytes (at + 73) u v h73)))
+    (sym (action_back bytes (at + 93) _ f.default h93)) e

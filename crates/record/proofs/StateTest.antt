@@ -26,7 +26,7 @@ use Rattle.wire.specs.Fields.{action_at, flag_at}
 use Rattle.record.specs.Read.{settings_at, link_of, payload_place, node_at_place, tree_at, state_at}
 use Rattle.record.specs.Accepted.{phase_accepted, stage_accepted, unmarked_leaf, leaf_accepted, best_accepted, tried_accepted, kept_accepted, list_length, state_accepted, nan_accepted}
 use Rattle.record.proofs.NumbersAgain.{Bytes, zero_same, number_below}
-use Rattle.record.proofs.TreeRead.{leaf_carried, used-link, carried-read}
+use Rattle.record.proofs.TreeRead.{leaf_carried, used_link, carried_read}
 use Rattle.record.proofs.PhaseTest.{phase_by, fields_by, by_phase}
 
 -- ---- a leaf that is read
@@ -34,22 +34,22 @@ module _ (lay : Layout) (a : Action) (bytes : List ℕ) (s : ℕ) (few : s ≤ 6
   abbrev nodes : List Node
   nodes = tabulate 513 (node_at_place lay a bytes s)
 
-  unmarked-used : (i : ℕ) → i < node_count s → (b : Bool) → eqb (link_of bytes (list_place lay) s i) 0 ≡ b
+  unmarked_used : (i : ℕ) → i < node_count s → (b : Bool) → eqb (link_of bytes (list_place lay) s i) 0 ≡ b
       → is_leaf_of nodes i && not (node_at_of nodes i).optimized ≡ b && not (flag_at bytes (payload_place lay bytes s i + 20))
-  unmarked-used i l true e =
+  unmarked_used i l true e =
       let z = eqb-true (link_of bytes (list_place lay) s i) 0 e in
-      let q = carried-read lay a bytes s few i l (leaf_carried lay (link_of bytes (list_place lay) s i) z) in
+      let q = carried_read lay a bytes s few i l (leaf_carried lay (link_of bytes (list_place lay) s i) z) in
       ap (λ (x : Node). eqb x.children 0 && not x.optimized) q
       ∙ ap (λ (b : Bool). b && not (flag_at bytes (payload_place lay bytes s i + 20))) e
-  unmarked-used i l false e =
-      ap (λ (k : ℕ). eqb k 0 && not (node_at_of nodes i).optimized) (used-link lay a bytes s few i l)
+  unmarked_used i l false e =
+      ap (λ (k : ℕ). eqb k 0 && not (node_at_of nodes i).optimized) (used_link lay a bytes s few i l)
       ∙ ap (λ (b : Bool). b && not (node_at_of nodes i).optimized) e
 
-  unmarked-is : (i : ℕ) → leaf_in (tree_at lay a bytes s) i && not (node_at_of nodes i).optimized ≡ unmarked_leaf lay bytes s i
+  unmarked_is : (i : ℕ) → leaf_in (tree_at lay a bytes s) i && not (node_at_of nodes i).optimized ≡ unmarked_leaf lay bytes s i
   unfolding unmarked_leaf
-  unmarked-is i =
+  unmarked_is i =
       ⊎_elim
-      (λ (l : i < node_count s). rw (lt-ltb i (node_count s) l) (unmarked-used i l (eqb (link_of bytes (list_place lay) s i) 0) refl))
+      (λ (l : i < node_count s). rw (lt-ltb i (node_count s) l) (unmarked_used i l (eqb (link_of bytes (list_place lay) s i) 0) refl))
       (λ (l : node_count s ≤ i). rw (le-ltb i (node_count s) l))
       (below_or_not i (node_count s))
 
@@ -58,7 +58,7 @@ module _ (lay : Layout) (a : Action) (bytes : List ℕ) (s : ℕ) (few : s ≤ 6
   unmarked_action i h =
       let l = ltb-true i (node_count s) (and_l (ltb i (node_count s)) _ h) in
       let z = eqb-true _ 0 (and_l (eqb (link_of bytes (list_place lay) s i) 0) _ (and_r (ltb i (node_count s)) _ h)) in
-      ap action_in (carried-read lay a bytes s few i l (leaf_carried lay (link_of bytes (list_place lay) s i) z))
+      ap action_in (carried_read lay a bytes s few i l (leaf_carried lay (link_of bytes (list_place lay) s i) z))
 
 -- ---- the state that stands at a place
 -- what the phase does not ask: in 5, that best is no other NaN
@@ -73,7 +73,7 @@ module _ (lay : Layout) (a : Action) (bytes : List ℕ) (s at : ℕ) (few : s �
   abbrev leaf : ℕ
   leaf = number_at bytes (at + 9) 2
 
-  fields-are : state_accepted lay bytes s at
+  fields_are : state_accepted lay bytes s at
       ≡ fields_by t.phase (leb 1 t.stage) (leb t.stage t.settings.rule_splits) (eqb t.stage (t.settings.rule_splits + 1))
       (eqb t.round 0) (ltb t.round t.settings.optimization_rounds_per_split) (eqb leaf 0) (unmarked_leaf lay bytes s leaf)
       (eqb (number_at bytes (at + 11) 8) 0)
@@ -81,7 +81,7 @@ module _ (lay : Layout) (a : Action) (bytes : List ℕ) (s at : ℕ) (few : s �
       (eqb t.k 0) (ltb t.k (list_length lay bytes s leaf)) (eqb t.kept none) (eqb (number_at bytes (at + 23) 8) 0)
       (ltb t.kept t.k && lt t.best t.kept_score)
   unfolding state_accepted phase_accepted stage_accepted leaf_accepted best_accepted tried_accepted kept_accepted
-  fields-are = refl
+  fields_are = refl
 
   phase_is : phase_holds t
       ≡ phase_by t.phase (leb 1 t.stage) (leb t.stage t.settings.rule_splits) (eqb t.stage (t.settings.rule_splits + 1))
@@ -92,28 +92,28 @@ module _ (lay : Layout) (a : Action) (bytes : List ℕ) (s at : ℕ) (few : s �
   phase_is = refl
 
   -- the phase's rules, with the tests of leaf, best and score as they are made
-  abbrev phaseWith : Bool → Bool → Bool → Bool
-  phaseWith unmarked best0 score0 =
+  abbrev phase_with : Bool → Bool → Bool → Bool
+  phase_with unmarked best0 score0 =
       phase_by t.phase (leb 1 t.stage) (leb t.stage t.settings.rule_splits) (eqb t.stage (t.settings.rule_splits + 1))
       (eqb t.round 0) (ltb t.round t.settings.optimization_rounds_per_split) (eqb leaf 0) unmarked best0 (eqb t.k 0)
       (ltb t.k (length (candidates_of t.settings (leaf_action t)))) (eqb t.kept none) score0
       (ltb t.kept t.k && lt t.best t.kept_score)
 
-  phase-same : phase_holds t ≡ phaseWith (unmarked_leaf lay bytes s leaf) (eqb (number_at bytes (at + 11) 8) 0) (eqb (number_at bytes (at + 23) 8) 0)
-  phase-same =
+  phase_same : phase_holds t ≡ phase_with (unmarked_leaf lay bytes s leaf) (eqb (number_at bytes (at + 11) 8) 0) (eqb (number_at bytes (at + 23) 8) 0)
+  phase_same =
       phase_is
-      ∙ ap (λ (b : Bool). phaseWith b (zero_bits_of t.best) (zero_bits_of t.kept_score)) (unmarked-is lay a bytes s few leaf)
-      ∙ ap (λ (b : Bool). phaseWith (unmarked_leaf lay bytes s leaf) b (zero_bits_of t.kept_score))
+      ∙ ap (λ (b : Bool). phase_with b (zero_bits_of t.best) (zero_bits_of t.kept_score)) (unmarked_is lay a bytes s few leaf)
+      ∙ ap (λ (b : Bool). phase_with (unmarked_leaf lay bytes s leaf) b (zero_bits_of t.kept_score))
       (zero_same (number_at bytes (at + 11) 8) (number_below bytes (at + 11) 8 all))
-      ∙ ap (λ (b : Bool). phaseWith (unmarked_leaf lay bytes s leaf) (eqb (number_at bytes (at + 11) 8) 0) b)
+      ∙ ap (λ (b : Bool). phase_with (unmarked_leaf lay bytes s leaf) (eqb (number_at bytes (at + 11) 8) 0) b)
       (zero_same (number_at bytes (at + 23) 8) (number_below bytes (at + 23) 8 all))
 
   list_same : unmarked_leaf lay bytes s leaf ≡ true → ltb t.k (list_length lay bytes s leaf) ≡ ltb t.k (length (candidates_of t.settings (leaf_action t)))
   list_same h = ap (λ (x : Action). ltb t.k (length (candidates_of t.settings x))) (sym (unmarked_action lay a bytes s few leaf h))
 
-  pub state-is : state_accepted lay bytes s at ≡ phase_holds t && best_number bytes at
-  state-is =
-      fields-are
+  pub state_is : state_accepted lay bytes s at ≡ phase_holds t && best_number bytes at
+  state_is =
+      fields_are
       ∙ by_phase (leb 1 t.stage) (leb t.stage t.settings.rule_splits) (eqb t.stage (t.settings.rule_splits + 1))
       (eqb t.round 0) (ltb t.round t.settings.optimization_rounds_per_split) (eqb leaf 0) (unmarked_leaf lay bytes s leaf)
       (eqb (number_at bytes (at + 11) 8) 0)
@@ -121,4 +121,4 @@ module _ (lay : Layout) (a : Action) (bytes : List ℕ) (s at : ℕ) (few : s �
       (eqb t.k 0) (ltb t.k (list_length lay bytes s leaf)) (ltb t.k (length (candidates_of t.settings (leaf_action t))))
       (eqb t.kept none) (eqb (number_at bytes (at + 23) 8) 0) (ltb t.kept t.k && lt t.best t.kept_score)
       list_same t.phase
-      ∙ ap (λ (b : Bool). b && best_number bytes at) (sym phase-same)
+      ∙ ap (λ (b : Bool). b && best_number bytes at) (sym phase_same)

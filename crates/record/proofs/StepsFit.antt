@@ -9,7 +9,6 @@ use borrow.Author.Tests.{eqb-true}
 use lib.Dec.{T, eqb, ltb, leb}
 use lib.ListN.{length, get_or}
 use lib.Ieee.{Float, binary64, fits}
-use Rattle.remy.specs.Cube as cube
 use Rattle.rule_tree.specs.declared.RuleTree.{RuleTree}
 use Rattle.rule_tree.specs.declared.Chosen.{Chosen}
 use Rattle.rule_tree.specs.declared.Chosen.TheVariants.{Leaf, Nobody, Refused}
@@ -30,11 +29,11 @@ use Rattle.trainer.specs.Change.{settings_fit, changed_to, change_of}
 use Rattle.trainer.specs.Calls.{started, wants_counts, wants_score, counts_step_of, answer_counts_of, score_step, answer_score_of}
 use Rattle.trainer.proofs.Holds.{and_left, and_right}
 use Rattle.trainer.proofs.CandidateLaws.{candidates_few}
-use Rattle.trainer.proofs.AcceptedFacts.{phase_cases, accepted-settings, accepted-phase, accepted-few, accepted-bounds, leaf_named, k_listed, kept_listed}
+use Rattle.trainer.proofs.AcceptedFacts.{phase_cases, accepted_settings, accepted_phase, accepted_few, accepted_bounds, leaf_named, k_listed, kept_listed}
 use Rattle.record.proofs.Stands.{SettingsFits}
 use Rattle.record.proofs.RoundTrip.{TrainerFits}
 use Rattle.record.proofs.BytesFit.{zero-fits}
-use Rattle.record.proofs.TreesFit.{candidate_fits, split-fits, act-fits, mark-fits, clear-fits, fresh_fits}
+use Rattle.record.proofs.TreesFit.{candidate_fits, split_fits, act_fits, mark_fits, clear_fits, fresh_fits}
 
 -- ---- trainers: what a call can change
 pub record Fit (t : Trainer) : Type 0 where
@@ -52,27 +51,27 @@ answered true x y f g = f
 answered false x y f g = g
 
 module _ (s : Settings) (f : SettingsFits s) (t : RuleTree) (g : TreeFits t) where
-  stand-fits : (p i r : ℕ) → Fit (stand s t p i r)
-  stand-fits p i r = record { settings = f; tree = g; best = zero-fits; score = zero-fits }
+  stand_fits : (p i r : ℕ) → Fit (stand s t p i r)
+  stand_fits p i r = record { settings = f; tree = g; best = zero-fits; score = zero-fits }
 
-  stage-fits : (i : ℕ) → Fit (begin_stage s t i)
+  stage_fits : (i : ℕ) → Fit (begin_stage s t i)
   unfolding begin_stage
-  stage-fits i = either (ltb s.rule_splits i) _ _ (stand-fits 6 i 0) (stand-fits 1 i 0)
+  stage_fits i = either (ltb s.rule_splits i) _ _ (stand_fits 6 i 0) (stand_fits 1 i 0)
 
   round-fits : (i r : ℕ) → Fit (begin_round s t i r)
   unfolding begin_round
-  round-fits i r = either (ltb r s.optimization_rounds_per_split) _ _ (stand-fits 3 i r) (stage-fits (i + 1))
+  round-fits i r = either (ltb r s.optimization_rounds_per_split) _ _ (stand_fits 3 i r) (stage_fits (i + 1))
 
 module _ (t : Trainer) (f : Fit t) where
   -- ---- counts
   module _ (xs : List ℕ) where
-    one-fits : Fit (phase1 t xs).trainer
+    one_fits : Fit (phase1 t xs).trainer
     unfolding phase1
-    one-fits =
+    one_fits =
         let tree = split_most_used t.tree xs in
-        let g = split-fits t.tree f.tree _ in
+        let g = split_fits t.tree f.tree _ in
         answered (ltb t.tree.splits 64) _ _
-        (either (t.settings.drill_down && leb (used_in xs) 1) _ _ (stand-fits t.settings f.settings tree g 2 t.stage 0)
+        (either (t.settings.drill_down && leb (used_in xs) 1) _ _ (stand_fits t.settings f.settings tree g 2 t.stage 0)
         (round-fits t.settings f.settings tree g t.stage 0))
         f
 
@@ -81,82 +80,82 @@ module _ (t : Trainer) (f : Fit t) where
     two_fits =
         answered (ltb 1 (used_in xs)) _ _ (round-fits t.settings f.settings t.tree f.tree t.stage 0)
         (answered (ltb t.tree.splits 64) _ _
-        (stand-fits t.settings f.settings (split_most_used t.tree xs) (split-fits t.tree f.tree _) 2 t.stage 0) f)
+        (stand_fits t.settings f.settings (split_most_used t.tree xs) (split_fits t.tree f.tree _) 2 t.stage 0) f)
 
     next_fits : Fit (next_round t)
-    next_fits = round-fits t.settings f.settings (without_marks t.tree) (clear-fits t.tree f.tree) t.stage (t.round + 1)
+    next_fits = round-fits t.settings f.settings (without_marks t.tree) (clear_fits t.tree f.tree) t.stage (t.round + 1)
 
-    tune-fits : (m : Chosen) → Fit (tune_next t xs m)
+    tune_fits : (m : Chosen) → Fit (tune_next t xs m)
     unfolding tune_next
-    tune-fits (Leaf i) =
+    tune_fits (Leaf i) =
         either (eqb (get_or xs i 0) 0 && not (eqb (total xs) 0)) _ _ next_fits
         (record { settings = f.settings; tree = f.tree; best = zero-fits; score = zero-fits })
-    tune-fits Nobody = next_fits
-    tune-fits (Refused k) = next_fits
+    tune_fits Nobody = next_fits
+    tune_fits (Refused k) = next_fits
 
     step_fits : Fit (counts_step_of t xs).trainer
     unfolding counts_step_of
     step_fits =
-        answered (eqb t.phase 1) _ _ one-fits
+        answered (eqb t.phase 1) _ _ one_fits
         (answered (eqb t.phase 2) _ _ two_fits
-        (answered (eqb t.phase 3) _ _ (tune-fits (most_used_in t.tree xs true)) (stand-fits t.settings f.settings t.tree f.tree 7 t.stage 0)))
+        (answered (eqb t.phase 3) _ _ (tune_fits (most_used_in t.tree xs true)) (stand_fits t.settings f.settings t.tree f.tree 7 t.stage 0)))
 
-    counts-fit : Fit (answer_counts_of t xs).trainer
+    counts_fit : Fit (answer_counts_of t xs).trainer
     unfolding answer_counts_of
-    counts-fit =
+    counts_fit =
         answered (accepted_of t) _ _
         (answered (wants_counts t.phase) _ _ (answered (counts_hold t.tree xs) _ _ step_fits f) f) f
 
   -- ---- a score
   module _ (h : settings_hold t.settings ≡ true) where
-    marked-fits : (tree : RuleTree) → TreeFits tree → Fit (marked t tree)
-    marked-fits tree g = stand-fits t.settings f.settings (with_mark tree t.leaf) (mark-fits tree g t.leaf) 3 t.stage t.round
+    marked_fits : (tree : RuleTree) → TreeFits tree → Fit (marked t tree)
+    marked_fits tree g = stand_fits t.settings f.settings (with_mark tree t.leaf) (mark_fits tree g t.leaf) 3 t.stage t.round
 
-    from-fits : (tree : RuleTree) (best : Float) → TreeFits tree → T (fits binary64 best) → Fit (try_from t tree best)
+    from_fits : (tree : RuleTree) (best : Float) → TreeFits tree → T (fits binary64 best) → Fit (try_from t tree best)
     unfolding try_from
-    from-fits tree best g b =
-        either (eqb (length (candidates_of t.settings (action_in (node_at_of tree.nodes t.leaf)))) 0) _ _ (marked-fits tree g)
+    from_fits tree best g b =
+        either (eqb (length (candidates_of t.settings (action_in (node_at_of tree.nodes t.leaf)))) 0) _ _ (marked_fits tree g)
         (record { settings = f.settings; tree = g; best = b; score = zero-fits })
 
     last_fits : (kept : ℕ) (score : Float) → T (fits binary64 score) → Fit (after_last t kept score)
     unfolding after_last
     last_fits kept score b =
         let c = get_or (candidates_of t.settings (leaf_action t)) kept no_candidate in
-        either (eqb kept none) _ _ (marked-fits t.tree f.tree)
-        (from-fits (with_action t.tree t.leaf c) score
-        (act-fits t.tree f.tree t.leaf c (candidate_fits t.settings (leaf_action t) kept h)) b)
+        either (eqb kept none) _ _ (marked_fits t.tree f.tree)
+        (from_fits (with_action t.tree t.leaf c) score
+        (act_fits t.tree f.tree t.leaf c (candidate_fits t.settings (leaf_action t) kept h)) b)
 
-    tried-fits : (kept : ℕ) (score : Float) → T (fits binary64 score) → Fit (tried t kept score)
+    tried_fits : (kept : ℕ) (score : Float) → T (fits binary64 score) → Fit (tried t kept score)
     unfolding tried
-    tried-fits kept score b =
+    tried_fits kept score b =
         either (ltb (t.k + 1) (length (candidates_of t.settings (leaf_action t)))) _ _
         (record { settings = f.settings; tree = f.tree; best = f.best; score = b })
         (last_fits kept score b)
 
     module _ (x : Float) (b : T (fits binary64 x)) where
-      five-fits : Fit (phase5 t x)
+      five_fits : Fit (phase5 t x)
       unfolding phase5
-      five-fits = either (keeps t x) _ _ (tried-fits t.k x b) (tried-fits t.kept t.kept_score f.score)
+      five_fits = either (keeps t x) _ _ (tried_fits t.k x b) (tried_fits t.kept t.kept_score f.score)
 
-      tries-fit : Fit (score_step t x)
+      tries_fit : Fit (score_step t x)
       unfolding score_step
-      tries-fit = either (eqb t.phase 4) _ _ (from-fits t.tree x f.tree b) five-fits
+      tries_fit = either (eqb t.phase 4) _ _ (from_fits t.tree x f.tree b) five_fits
 
-      score-fit : Fit (answer_score_of t x).trainer
+      score_fit : Fit (answer_score_of t x).trainer
       unfolding answer_score_of
-      score-fit = answered (accepted_of t) _ _ (answered (wants_score t.phase) _ _ tries-fit f) f
+      score_fit = answered (accepted_of t) _ _ (answered (wants_score t.phase) _ _ tries_fit f) f
 
   -- ---- new settings
   module _ (s : Settings) (g : SettingsFits s) where
-    new-fits : Fit (changed_to t s)
+    new_fits : Fit (changed_to t s)
     unfolding changed_to
-    new-fits =
+    new_fits =
         either (wants_score t.phase) (at_leaf_of s t.tree t.stage t.round t.leaf) (stand s t.tree t.phase t.stage t.round)
-        (record { settings = g; tree = f.tree; best = zero-fits; score = zero-fits }) (stand-fits s g t.tree f.tree t.phase t.stage t.round)
+        (record { settings = g; tree = f.tree; best = zero-fits; score = zero-fits }) (stand_fits s g t.tree f.tree t.phase t.stage t.round)
 
-    change-fit : Fit (change_of t s).trainer
+    change_fit : Fit (change_of t s).trainer
     unfolding change_of
-    change-fit = answered (accepted_of t) _ _ (answered (settings_hold s) _ _ (answered (settings_fit t s) _ _ new-fits f) f) f
+    change_fit = answered (accepted_of t) _ _ (answered (settings_hold s) _ _ (answered (settings_fit t s) _ _ new_fits f) f) f
 
 -- ---- the numbers of an accepted trainer
 abbrev Small : Trainer → Type 0
@@ -178,43 +177,43 @@ idle_small t h =
     (omega arith, u.0, u.1)
 
 module _ (t : Trainer) (a : accepted_of t ≡ true) where
-  leaf-small : leaf_holds t ≡ true → t.leaf < 513
-  leaf-small h = omega (arith, leaf_below t.tree t.leaf (leaf_named t h), accepted-few t a)
+  leaf_small : leaf_holds t ≡ true → t.leaf < 513
+  leaf_small h = omega (arith, leaf_below t.tree t.leaf (leaf_named t h), accepted_few t a)
 
-  splitting-small : splitting t ≡ true → Small t
+  splitting_small : splitting t ≡ true → Small t
   unfolding splitting
-  splitting-small h =
+  splitting_small h =
       idle_small t (and_right (eqb t.round 0) (idle t) (and_right (leb t.stage t.settings.rule_splits) _ (and_right (leb 1 t.stage) _ h)))
 
-  ending-small : ending t ≡ true → Small t
+  ending_small : ending t ≡ true → Small t
   unfolding ending
-  ending-small h = idle_small t (and_right (eqb t.round 0) (idle t) (and_right (eqb t.stage (t.settings.rule_splits + 1)) _ h))
+  ending_small h = idle_small t (and_right (eqb t.round 0) (idle t) (and_right (eqb t.stage (t.settings.rule_splits + 1)) _ h))
 
-  asking-small : tuning t && (leaf_holds t && untried t) ≡ true → Small t
-  asking-small h =
+  asking_small : tuning t && (leaf_holds t && untried t) ≡ true → Small t
+  asking_small h =
       let q = and_right (tuning t) (leaf_holds t && untried t) h in
       let u = untried_small t (and_right (leaf_holds t) (untried t) q) in
-      (leaf-small (and_left (leaf_holds t) (untried t) q), u.0, u.1)
+      (leaf_small (and_left (leaf_holds t) (untried t) q), u.0, u.1)
 
-  trying-small : tuning t && (leaf_holds t && try_holds_of t) ≡ true → Small t
-  trying-small h =
+  trying_small : tuning t && (leaf_holds t && try_holds_of t) ≡ true → Small t
+  trying_small h =
       let q = and_right (tuning t) (leaf_holds t && try_holds_of t) h in
       let w = and_right (leaf_holds t) (try_holds_of t) q in
       let few = candidates_few t.settings (leaf_action t) in (
-        leaf-small (and_left (leaf_holds t) (try_holds_of t) q),
+        leaf_small (and_left (leaf_holds t) (try_holds_of t) q),
         omega (arith, k_listed t w),
         ⊎_elim (λ (e : t.kept ≡ none). omega arith) (λ (l : t.kept < length (candidates_of t.settings (leaf_action t))). omega arith) (kept_listed t w),
       )
 
-  accepted-small : Small t
-  accepted-small =
+  accepted_small : Small t
+  accepted_small =
       phase_cases t.phase (splitting t) (tuning t && idle t) (tuning t && (leaf_holds t && untried t)) (tuning t && (leaf_holds t && try_holds_of t)) (ending t)
-      (accepted-phase t a) splitting-small (λ q. idle_small t (and_right (tuning t) (idle t) q)) asking-small trying-small ending-small
+      (accepted_phase t a) splitting_small (λ q. idle_small t (and_right (tuning t) (idle t) q)) asking_small trying_small ending_small
 
-  pub whole-fits : Fit t → TrainerFits t
-  whole-fits f =
-      let b = accepted-bounds t a in
-      let n = accepted-small in
+  pub whole_fits : Fit t → TrainerFits t
+  whole_fits f =
+      let b = accepted_bounds t a in
+      let n = accepted_small in
       record {
         settings = f.settings;
         tree = f.tree;
@@ -233,14 +232,14 @@ part t f = record { settings = f.settings; tree = f.tree; best = f.best; score =
 
 pub started_fits : (s : Settings) → SettingsFits s → accepted_of (started s) ≡ true → TrainerFits (started s)
 started_fits s f a =
-    whole-fits (started s) a (round-fits s f (fresh_tree s.ends s.default_action) (fresh_fits s.ends s.default_action f.ends f.default) 0 0)
+    whole_fits (started s) a (round-fits s f (fresh_tree s.ends s.default_action) (fresh_fits s.ends s.default_action f.ends f.default) 0 0)
 
 pub counted_fits : (t : Trainer) (xs : List ℕ) → TrainerFits t → accepted_of (answer_counts_of t xs).trainer ≡ true → TrainerFits (answer_counts_of t xs).trainer
-counted_fits t xs f a = whole-fits (answer_counts_of t xs).trainer a (counts-fit t (part t f) xs)
+counted_fits t xs f a = whole_fits (answer_counts_of t xs).trainer a (counts_fit t (part t f) xs)
 
 pub scored_fits : (t : Trainer) (x : Float) → TrainerFits t → T (fits binary64 x) → accepted_of t ≡ true → accepted_of (answer_score_of t x).trainer ≡ true
     → TrainerFits (answer_score_of t x).trainer
-scored_fits t x f b h a = whole-fits (answer_score_of t x).trainer a (score-fit t (part t f) (accepted-settings t h) x b)
+scored_fits t x f b h a = whole_fits (answer_score_of t x).trainer a (score_fit t (part t f) (accepted_settings t h) x b)
 
 pub changed_fits : (t : Trainer) (s : Settings) → TrainerFits t → SettingsFits s → accepted_of (change_of t s).trainer ≡ true → TrainerFits (change_of t s).trainer
-changed_fits t s f g a = whole-fits (change_of t s).trainer a (change-fit t (part t f) s g)
+changed_fits t s f g a = whole_fits (change_of t s).trainer a (change_fit t (part t f) s g)

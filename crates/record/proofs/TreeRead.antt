@@ -18,7 +18,7 @@ use Rattle.record.specs.declared.inner.layout.Layout.{Layout}
 use Rattle.record.specs.Layout.{carries, list_place, nodes_place}
 use Rattle.wire.specs.Fields.{action_at, flag_at}
 use Rattle.record.specs.Read.{link_of, carried_at, payload_place, node_with, node_at_place}
-use Rattle.record.proofs.Reading.{node-is, unused-is, node-read}
+use Rattle.record.proofs.Reading.{node_is, unused_is, node_read}
 use Rattle.record.proofs.Size.{carried}
 
 pub leaf_carried : (lay : Layout) (c : ℕ) → c ≡ 0 → carries lay c ≡ true
@@ -45,42 +45,42 @@ module _ (lay : Layout) (a : Action) (bytes : List ℕ) (s : ℕ) (few : s ≤ 6
   abbrev cs : List ℕ
   cs = children_of nodes
 
-  pub nodes-long : length nodes ≡ 513
-  nodes-long = length_tabulate 513 (node_at_place lay a bytes s)
+  pub nodes_long : length nodes ≡ 513
+  nodes_long = length_tabulate 513 (node_at_place lay a bytes s)
 
-  pub used-read : (i : ℕ) → i < node_count s → node_at_of nodes i ≡ node_with lay a bytes (payload_place lay bytes s i) (link_of bytes list s i)
-  used-read i l = get_d_tabulate 513 i (node_at_place lay a bytes s) no_node (omega arith) ∙ sym (node-is lay a bytes s i l)
+  pub used_read : (i : ℕ) → i < node_count s → node_at_of nodes i ≡ node_with lay a bytes (payload_place lay bytes s i) (link_of bytes list s i)
+  used_read i l = get_d_tabulate 513 i (node_at_place lay a bytes s) no_node (omega arith) ∙ sym (node_is lay a bytes s i l)
 
-  pub unused-read : (i : ℕ) → node_count s ≤ i → i < 513 → node_at_of nodes i ≡ blank_node
-  unused-read i l b = get_d_tabulate 513 i (node_at_place lay a bytes s) no_node b ∙ unused-is lay a bytes s i l
+  pub unused_read : (i : ℕ) → node_count s ≤ i → i < 513 → node_at_of nodes i ≡ blank_node
+  unused_read i l b = get_d_tabulate 513 i (node_at_place lay a bytes s) no_node b ∙ unused_is lay a bytes s i l
 
-  pub used-link : (i : ℕ) → i < node_count s → (node_at_of nodes i).children ≡ link_of bytes list s i
-  used-link i l =
-      ap (λ (x : Node). x.children) (used-read i l) ∙ with_children lay a bytes (payload_place lay bytes s i) (link_of bytes list s i)
+  pub used_link : (i : ℕ) → i < node_count s → (node_at_of nodes i).children ≡ link_of bytes list s i
+  used_link i l =
+      ap (λ (x : Node). x.children) (used_read i l) ∙ with_children lay a bytes (payload_place lay bytes s i) (link_of bytes list s i)
 
-  pub child-used : (i : ℕ) → i < node_count s → get_or cs i 0 ≡ link_of bytes list s i
-  child-used i l = children_at nodes i ∙ used-link i l
+  pub child_used : (i : ℕ) → i < node_count s → get_or cs i 0 ≡ link_of bytes list s i
+  child_used i l = children_at nodes i ∙ used_link i l
 
-  pub child-unused : (i : ℕ) → node_count s ≤ i → get_or cs i 0 ≡ 0
-  child-unused i l =
-      ⊎_elim (λ (b : i < 513). children_at nodes i ∙ ap (λ (x : Node). x.children) (unused-read i l b))
-      (λ (b : 513 ≤ i). get_or-eq_default cs 0 (omega (arith, children_count nodes, nodes-long)))
+  pub child_unused : (i : ℕ) → node_count s ≤ i → get_or cs i 0 ≡ 0
+  child_unused i l =
+      ⊎_elim (λ (b : i < 513). children_at nodes i ∙ ap (λ (x : Node). x.children) (unused_read i l b))
+      (λ (b : 513 ≤ i). get_or-eq_default cs 0 (omega (arith, children_count nodes, nodes_long)))
       (below_or_not i 513)
 
   -- a node with children is one that is in use
-  pub child-parent : (i : ℕ) → (get_or cs i 0 ≡ 0 → ⊥) → i < node_count s
-  child-parent i n = ⊎_elim (λ (l : i < node_count s). l) (λ (l : node_count s ≤ i). absurd (n (child-unused i l))) (below_or_not i (node_count s))
+  pub child_parent : (i : ℕ) → (get_or cs i 0 ≡ 0 → ⊥) → i < node_count s
+  child_parent i n = ⊎_elim (λ (l : i < node_count s). l) (λ (l : node_count s ≤ i). absurd (n (child_unused i l))) (below_or_not i (node_count s))
 
-  pub carried-read : (i : ℕ) → i < node_count s → carried_at lay bytes s i ≡ true
+  pub carried_read : (i : ℕ) → i < node_count s → carried_at lay bytes s i ≡ true
       → node_at_of nodes i
       ≡ node_holding (action_at bytes (payload_place lay bytes s i)) (link_of bytes list s i) (flag_at bytes (payload_place lay bytes s i + 20))
-  carried-read i l c =
-      used-read i l
-      ∙ sym (node-read lay a bytes (payload_place lay bytes s i) (link_of bytes list s i) c refl refl)
+  carried_read i l c =
+      used_read i l
+      ∙ sym (node_read lay a bytes (payload_place lay bytes s i) (link_of bytes list s i) c refl refl)
 
   -- ---- those that are written
   pub held_same : (i : ℕ) → i < node_count s → carried lay nodes i ≡ carried_at lay bytes s i
-  held_same i l = ap (carries lay) (used-link i l)
+  held_same i l = ap (carries lay) (used_link i l)
 
   pub count_same : (n : ℕ) → n ≤ node_count s → count_below n (carried lay nodes) ≡ count_below n (carried_at lay bytes s)
   unfolding count_below

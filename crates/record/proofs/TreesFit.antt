@@ -15,7 +15,6 @@ use mir.Val.{SFits}
 use Rattle.remy.specs.declared.action.Action.{Action}
 use Rattle.remy.specs.declared.point.Point.{Point}
 use Rattle.remy.specs.Action.{valid_of}
-use Rattle.remy.specs.Cube as cube
 use Rattle.rule_tree.specs.declared.Node.{Node}
 use Rattle.rule_tree.specs.declared.RuleTree.{RuleTree}
 use Rattle.rule_tree.specs.Lists.{fill}
@@ -23,14 +22,14 @@ use Rattle.rule_tree.specs.Nodes.{no_node, node_at_of, leaf_with, linked_to, bla
 use Rattle.rule_tree.specs.Change.{fresh_tree, with_action, with_mark, unmarked_node, without_marks, split_at_of}
 use Rattle.rule_tree.proofs.Plain.{ActionFits, PointFits}
 use Rattle.rule_tree.proofs.Owners.{below_or_not}
-use Rattle.rule_tree.proofs.Changing.{action-length, mark-length, clear-length, fresh_length, split-length}
+use Rattle.rule_tree.proofs.Changing.{action_length, mark_length, clear_length, fresh_length, split_length}
 use Rattle.rule_tree_laws.proofs.Sound.{TreeFits}
 use Rattle.trainer.specs.declared.settings.Settings.{Settings}
 use Rattle.trainer.specs.Settings.{multiplier_axis, increment_axis, delay_axis, settings_hold}
 use Rattle.trainer.specs.Candidates.{flat_map, filter, float_changes, whole_changes, changed, all_changes, inside_of, candidates_of, no_candidate}
 use Rattle.trainer.proofs.Holds.{increment_small}
 use Rattle.trainer.proofs.CandidateLaws.{candidate_valid}
-use Rattle.record.proofs.BytesFit.{plain_fits, ends-fit}
+use Rattle.record.proofs.BytesFit.{plain_fits}
 
 -- ---- actions
 missing_fits : ActionFits no_candidate
@@ -143,27 +142,27 @@ module _ (t : RuleTree) (f : TreeFits t) where
       (λ (l : 513 ≤ i). subst (λ (x : Node). ActionFits (action_in x)) (sym (past_end t.nodes i no_node (omega (arith, f.full)))) missing_fits)
       (below_or_not i 513)
 
-  pub split-fits : (i : ℕ) → TreeFits (split_at_of t i)
+  pub split_fits : (i : ℕ) → TreeFits (split_at_of t i)
   unfolding split_at_of
-  split-fits i =
+  split_fits i =
       let first = 8 * t.splits + 1 in
       record {
-        full = split-length t i ∙ f.full;
+        full = split_length t i ∙ f.full;
         ends = f.ends;
         actions = λ j l.
             fill_fits (set t.nodes i (linked_to (node_at_of t.nodes i) first)) first 8 (leaf_with (action_in (node_at_of t.nodes i)))
             (set_fits t.nodes i (linked_to (node_at_of t.nodes i) first) node_fits (node_fits i)) (node_fits i) j;
       }
 
-  pub act-fits : (i : ℕ) (a : Action) → ActionFits a → TreeFits (with_action t i a)
-  act-fits i a g =
-      record { full = action-length t i a ∙ f.full; ends = f.ends; actions = λ j l. set_fits t.nodes i _ node_fits g j }
+  pub act_fits : (i : ℕ) (a : Action) → ActionFits a → TreeFits (with_action t i a)
+  act_fits i a g =
+      record { full = action_length t i a ∙ f.full; ends = f.ends; actions = λ j l. set_fits t.nodes i _ node_fits g j }
 
-  pub mark-fits : (i : ℕ) → TreeFits (with_mark t i)
-  mark-fits i = record { full = mark-length t i ∙ f.full; ends = f.ends; actions = λ j l. set_fits t.nodes i _ node_fits (node_fits i) j }
+  pub mark_fits : (i : ℕ) → TreeFits (with_mark t i)
+  mark_fits i = record { full = mark_length t i ∙ f.full; ends = f.ends; actions = λ j l. set_fits t.nodes i _ node_fits (node_fits i) j }
 
-  pub clear-fits : TreeFits (without_marks t)
-  clear-fits = record { full = clear-length t ∙ f.full; ends = f.ends; actions = λ j l. cleared_fits t.nodes node_fits j }
+  pub clear_fits : TreeFits (without_marks t)
+  clear_fits = record { full = clear_length t ∙ f.full; ends = f.ends; actions = λ j l. cleared_fits t.nodes node_fits j }
 
 pub fresh_fits : (e : Point) (a : Action) → PointFits e → ActionFits a → TreeFits (fresh_tree e a)
 fresh_fits e a p g =

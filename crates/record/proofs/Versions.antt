@@ -15,8 +15,8 @@ use Rattle.rule_tree.specs.Nodes.{no_node, node_at_of, leaf_with, node_count, bl
 use Rattle.rule_tree.specs.Grown.{grown_of}
 use Rattle.rule_tree.specs.Change.{newest_parent, undone}
 use Rattle.rule_tree.proofs.Lists.{get_d_tabulate}
-use Rattle.rule_tree.proofs.Links.{grown-splits}
-use Rattle.rule_tree.proofs.Undoing.{newest-before, newest-children, undo-parent}
+use Rattle.rule_tree.proofs.Links.{grown_splits}
+use Rattle.rule_tree.proofs.Undoing.{newest_before, newest_children, undo_parent}
 use Rattle.rule_tree_laws.proofs.Sound.{kids}
 use Rattle.trainer.specs.declared.Trainer.{Trainer}
 use Rattle.trainer.specs.Phases.{taken}
@@ -30,9 +30,9 @@ use Rattle.record.specs.Read.{settings_at, split_count, link_of, payload_place, 
 use Rattle.record.specs.Calls.{load_of}
 use Rattle.wire.proofs.Bytes.{never}
 use Rattle.record.proofs.Layouts.{size_first, size_second}
-use Rattle.record.proofs.Size.{record-size}
+use Rattle.record.proofs.Size.{record_size}
 use Rattle.record.proofs.RoundTrip.{TrainerFits, Carried, carried_parents}
-use Rattle.record.proofs.Loading.{accepted_ends, load-carried, load_saved, load_again, accepted-grown}
+use Rattle.record.proofs.Loading.{accepted_ends, load_carried, load_saved, load_again, accepted_grown}
 use Rattle.record.proofs.NumbersAgain.{Bytes}
 use Rattle.record.proofs.BytesFit.{loaded_is, loaded_fits}
 
@@ -51,9 +51,9 @@ module _ (lay : Layout) (a : Action) (bytes : List ℕ) (s i : ℕ) where
   abbrev by : Bool → Bool → Node
   by b c = cond b (cond c (node_holding (action_at bytes at) link (flag_at bytes (at + 20))) (given a link)) blank_node
 
-  place-given : carries lay (node_at_place lay a bytes s i).children ≡ false → node_at_place lay a bytes s i ≡ given a (node_at_place lay a bytes s i).children
+  place_given : carries lay (node_at_place lay a bytes s i).children ≡ false → node_at_place lay a bytes s i ≡ given a (node_at_place lay a bytes s i).children
   unfolding node_at_place
-  place-given = go (ltb i (node_count s)) (carries lay link) refl
+  place_given = go (ltb i (node_count s)) (carries lay link) refl
     where
       leaf : (b : Bool) → (b || true) ≡ false → ⊥
       leaf true e = never (sym e)
@@ -70,7 +70,7 @@ read_carried lay bytes =
     let a = given_action (settings_at lay bytes 5) in
     record {
       parents = λ i l z.
-          subst (λ (x : Node). carries lay x.children ≡ false → x ≡ given a x.children) (sym (get_d_tabulate 513 i (node_at_place lay a bytes s) no_node l)) (place-given lay a bytes s i) z;
+          subst (λ (x : Node). carries lay x.children ≡ false → x ≡ given a x.children) (sym (get_d_tabulate 513 i (node_at_place lay a bytes s) no_node l)) (place_given lay a bytes s i) z;
       ends = λ z. ap (λ (b : Bool). cond b (point_at bytes 118) usual_ends) z;
       box = refl;
     }
@@ -97,39 +97,39 @@ pub record FirstLoaded (bytes : List ℕ) (t : Trainer) : Type 0 where
   pub ends : t.settings.ends ≡ usual_ends
 
 module _ (bytes : List ℕ) (t : Trainer) (e : load_of bytes ≡ taken t) (v : version_at bytes ≡ 1) where
-  first-carried : Carried (layout_of 1) t
-  first-carried = subst (λ (n : ℕ). Carried (layout_of n) t) v (loaded_carried bytes t e)
+  first_carried : Carried (layout_of 1) t
+  first_carried = subst (λ (n : ℕ). Carried (layout_of n) t) v (loaded_carried bytes t e)
 
-  pub load-first-is : FirstLoaded bytes t
-  load-first-is =
+  pub load_first_is : FirstLoaded bytes t
+  load_first_is =
       record {
         accepted = (load_again bytes t e).accepted;
         written = ap (λ (n : ℕ). record_in (layout_of n) n t) (sym v) ∙ (load_again bytes t e).again;
-        parents = λ i l n. first-carried.parents i l (ne_eqb (kids t.tree i) 0 n);
-        ends = first-carried.ends refl;
+        parents = λ i l n. first_carried.parents i l (ne_eqb (kids t.tree i) 0 n);
+        ends = first_carried.ends refl;
       }
 
   -- "which taking back then gives"
-  pub first-taken-back : TrainerFits t → 0 < t.tree.splits → node_at_of (undone t.tree).nodes (newest_parent t.tree) ≡ leaf_with t.settings.default_action
-  first-taken-back f s =
-      let g = accepted-grown t (load_again bytes t e).accepted in
+  pub first_taken_back : TrainerFits t → 0 < t.tree.splits → node_at_of (undone t.tree).nodes (newest_parent t.tree) ≡ leaf_with t.settings.default_action
+  first_taken_back f s =
+      let g = accepted_grown t (load_again bytes t e).accepted in
       let full = f.tree.full in
       let i = newest_parent t.tree in
-      let c = newest-children t.tree full g s in
-      let b = newest-before t.tree full g s in
-      undo-parent t.tree full g s
+      let c = newest_children t.tree full g s in
+      let b = newest_before t.tree full g s in
+      undo_parent t.tree full g s
       ∙ ap (λ (x : Node). node_holding (action_in x) 0 x.optimized)
-      (load-first-is.parents i (omega (arith, b, grown-splits t.tree g)) (λ z. absurd (omega (arith, z, c))))
+      (load_first_is.parents i (omega (arith, b, grown_splits t.tree g)) (λ z. absurd (omega (arith, z, c))))
 
 -- every such trainer loads from its version 1 record
 pub load_first : (t : Trainer) → TrainerFits t → FirstLoaded (record_in (layout_of 1) 1 t) t → load_of (record_in (layout_of 1) 1 t) ≡ taken t
 load_first t f h =
-    load-carried 1 refl t f h.accepted
+    load_carried 1 refl t f h.accepted
     (record { parents = λ i l z. h.parents i l (λ q. never (sym z ∙ ap (λ (c : ℕ). eqb c 0) q)); ends = λ z. h.ends; box = accepted_ends t f h.accepted })
 
 -- "64 splits 9,708" in version 1
 pub first_count : (t : Trainer) → grown_of t.tree ≡ true → length t.tree.nodes ≡ 513 → length (record_in (layout_of 1) 1 t) ≡ 172 + 149 * t.tree.splits
-first_count t g full = record-size (layout_of 1) 1 t g full ∙ size_first t.tree.splits
+first_count t g full = record_size (layout_of 1) 1 t g full ∙ size_first t.tree.splits
 
 -- ---- "older versions load with 600, 600, 1000": version 2, which says all of an accepted trainer but its upper ends
 pub record SecondLoaded (bytes : List ℕ) (t : Trainer) : Type 0 where
@@ -147,8 +147,8 @@ load_second_is bytes t e v =
 
 pub load_second : (t : Trainer) → TrainerFits t → SecondLoaded (record_in (layout_of 2) 2 t) t → load_of (record_in (layout_of 2) 2 t) ≡ taken t
 load_second t f h =
-    load-carried 2 refl t f h.accepted (carried_parents (layout_of 2) t refl (λ z. h.ends) (accepted_ends t f h.accepted))
+    load_carried 2 refl t f h.accepted (carried_parents (layout_of 2) t refl (λ z. h.ends) (accepted_ends t f h.accepted))
 
 -- "64 splits 11,052" in version 2
 pub second_count : (t : Trainer) → grown_of t.tree ≡ true → length t.tree.nodes ≡ 513 → length (record_in (layout_of 2) 2 t) ≡ 172 + 170 * t.tree.splits
-second_count t g full = record-size (layout_of 2) 2 t g full ∙ size_second t.tree.splits
+second_count t g full = record_size (layout_of 2) 2 t g full ∙ size_second t.tree.splits

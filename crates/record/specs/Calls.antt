@@ -1,5 +1,5 @@
 -- What save and load answer, refusals first and in 01's order.
-use Rattle.std.specs.Prelude.{Bool, ◌&&◌, List, [], ◌∷◌, ◌++◌, ℕ, ◌+◌, ◌-◌, length, drop, eqb, leb}
+use Rattle.std.specs.Prelude.{Bool, ◌&&◌, List, [], ◌∷◌, ◌++◌, ℕ, ◌-◌, length, drop, eqb, leb}
 use Rattle.refusal.specs.Numbers.{bad_field, bad_length, not_grown, short_buffer, unknown_version}
 use Rattle.refusal.specs.Guards.{Test, test, guarded}
 use Rattle.trainer.specs.declared.Trainer.{Trainer}

@@ -1,4 +1,6 @@
 // The record: a trainer saved as bytes, and loaded from them.
+#![tactic(auto)]
+
 ghost use Rattle.std.specs.Prelude.{◌≡◌};
 ghost use Rattle.record.specs.Calls.{save_of, buffer_after, load_of};
 
@@ -7,7 +9,7 @@ use trainer::{Answered, Trainer};
 
 pub mod inner;
 
-#[derive(Drop)]
+#[derive(Clone, Copy)]
 pub enum Saved {
     Size(usize),
     Refused(u32),

@@ -29,10 +29,10 @@ use Rattle.record.proofs.Stands.{SettingsFits}
 use Rattle.record.proofs.RoundTrip.{TrainerFits}
 use Rattle.record.proofs.Loading.{load_saved}
 use Rattle.record.proofs.BytesFit.{zero-fits}
-use Rattle.record.proofs.TreesFit.{split-fits, fresh_fits}
+use Rattle.record.proofs.TreesFit.{split_fits, fresh_fits}
 use Rattle.small_trees.specs.Lists.{is_growth}
 use Rattle.small_trees_laws.specs.Trees.{grown_by, ended_with}
-use Rattle.small_trees_laws.proofs.Trees.{listed-grown}
+use Rattle.small_trees_laws.proofs.Trees.{listed_grown}
 
 -- splits keep the upper ends
 grown_ends : (t : RuleTree) (xs : List ℕ) → (grown_by t xs).ends ≡ t.ends
@@ -43,7 +43,7 @@ grown_ends t (i ∷ rest) = grown_ends (split_at_of t i) rest
 grown_fits : (t : RuleTree) (xs : List ℕ) → TreeFits t → TreeFits (grown_by t xs)
 unfolding grown_by
 grown_fits t [] f = f
-grown_fits t (i ∷ rest) f = grown_fits (split_at_of t i) rest (split-fits t f i)
+grown_fits t (i ∷ rest) f = grown_fits (split_at_of t i) rest (split_fits t f i)
 
 ended_holds : (s : Settings) (t : RuleTree) → phase_holds (ended_with s t) ≡ true
 unfolding phase_holds untried_in to_bits
@@ -63,9 +63,9 @@ module _ (s : Settings) (f : SettingsFits s) (h : settings_hold s ≡ true) (a :
       ap (λ (p : Point). point_equal p s.ends) (grown_ends (fresh_tree s.ends a) xs)
       ∙ ends_themselves s.ends (ends_admitted_lem s.ends held)
 
-  pub listed-accepted : accepted_of (ended_with s tree) ≡ true
+  pub listed_accepted : accepted_of (ended_with s tree) ≡ true
   unfolding accepted_of
-  listed-accepted = rw (h, listed-grown s.ends held a v n xs l w, boxed, ended_holds s tree)
+  listed_accepted = rw (h, listed_grown s.ends held a v n xs l w, boxed, ended_holds s tree)
 
   fit : TrainerFits (ended_with s tree)
   fit =
@@ -82,5 +82,5 @@ module _ (s : Settings) (f : SettingsFits s) (h : settings_hold s ≡ true) (a :
       }
 
   -- the loader takes what a save writes of it
-  pub listed-loaded : load_of (record_of (ended_with s tree)) ≡ taken (ended_with s tree)
-  listed-loaded = load_saved (ended_with s tree) fit listed-accepted
+  pub listed_loaded : load_of (record_of (ended_with s tree)) ≡ taken (ended_with s tree)
+  listed_loaded = load_saved (ended_with s tree) fit listed_accepted

@@ -17,10 +17,10 @@ use Rattle.rule_tree.specs.Nodes.{node_at_of, node_count, children_of, slots, mo
 use Rattle.rule_tree.specs.Grown.{ends_hold, grown_of}
 use Rattle.rule_tree.specs.Change.{fresh_tree, split_at_of}
 use Rattle.rule_tree.specs.Calls.{leaf_in, taken, split_of}
-use Rattle.rule_tree.proofs.Changing.{split-splits}
-use Rattle.rule_tree.proofs.Links.{grown-linked}
+use Rattle.rule_tree.proofs.Changing.{split_splits}
+use Rattle.rule_tree.proofs.Links.{grown_linked}
 use Rattle.rule_tree.proofs.LinkWays.{children_at}
-use Rattle.rule_tree_laws.proofs.SplitLinks.{split-links}
+use Rattle.rule_tree_laws.proofs.SplitLinks.{split_links}
 use Rattle.rule_tree_laws.specs.Growth.{Growth, root, split}
 use Rattle.rule_tree_laws.proofs.GrowthTest.{growth_full, growth_grown}
 use Rattle.small_trees.specs.Lists.{names, grows_from, is_growth}
@@ -46,12 +46,12 @@ module _ (t : RuleTree) (done : List ℕ) (i : ℕ) (g : Growth t) (f : Free t d
   is_leaf : leaf_in t i ≡ true
   is_leaf = rw (lt-ltb i (node_count t.splits) l, eq-eqb (node_at_of t.nodes i).children 0 (sym (children_at t.nodes i) ∙ f.links i u))
 
-  split-free : t.splits < 64 → Free (split_at_of t i) (i ∷ done)
-  split-free r =
+  split_free : t.splits < 64 → Free (split_at_of t i) (i ∷ done)
+  split_free r =
       record {
         links =
             λ j h.
-            ap (λ (cs : List ℕ). get_or cs j 0) (split-links t i (growth_full t g) (grown-linked t (growth_grown t g)) is_leaf r)
+            ap (λ (cs : List ℕ). get_or cs j 0) (split_links t i (growth_full t g) (grown_linked t (growth_grown t g)) is_leaf r)
             ∙ get_or-set_other (children_of t.nodes) i j (8 * t.splits + 1) 0 (λ e. unnamed_head i done j h (sym e))
             ∙ f.links j (unnamed_rest i done j h);
       }
@@ -75,9 +75,9 @@ grow t done [] g f h l = record { growth = g; calls = refl }
 grow t done (i ∷ rest) g f h l =
     let s : Step done t.splits i rest = stepped done t.splits i rest h in
     let r : t.splits < most_splits = omega arith in
-    let e : suc t.splits ≡ (split_at_of t i).splits = omega (arith, split-splits t i) in
+    let e : suc t.splits ≡ (split_at_of t i).splits = omega (arith, split_splits t i) in
     let k = is_leaf t done i g f s.node s.leaf in
-    let m = grow (split_at_of t i) (i ∷ done) rest (split t i g k r) (split-free t done i g f s.node s.leaf r) (subst (λ (n : ℕ). grows_from (i ∷ done) n rest ≡ true) e s.more) (omega arith) in
+    let m = grow (split_at_of t i) (i ∷ done) rest (split t i g k r) (split_free t done i g f s.node s.leaf r) (subst (λ (n : ℕ). grows_from (i ∷ done) n rest ≡ true) e s.more) (omega arith) in
     record { growth = m.growth; calls = split_more t i rest (split_taken t i (growth_grown t g) k r) ∙ m.calls }
 
 -- from a root leaf with any ends that a tree may have and any valid action
@@ -85,13 +85,13 @@ module _ (e : Point) (b : ends_hold e ≡ true) (a : Action) (v : valid_of a ≡
   grows : Grows (fresh_tree e a) xs
   grows = grow (fresh_tree e a) [] xs (root e a b v) (fresh_free e a) (growth_grows n xs h) (let m = growth_short n xs h in omega arith)
 
-  pub listed-growth : Growth (grown_by (fresh_tree e a) xs)
-  listed-growth = grows.growth
+  pub listed_growth : Growth (grown_by (fresh_tree e a) xs)
+  listed_growth = grows.growth
 
   -- by the public calls, none of which is refused
-  pub listed-calls : split_each (fresh_tree e a) xs ≡ taken (grown_by (fresh_tree e a) xs)
-  listed-calls = grows.calls
+  pub listed_calls : split_each (fresh_tree e a) xs ≡ taken (grown_by (fresh_tree e a) xs)
+  listed_calls = grows.calls
 
   -- so that it passes the test for 10
-  pub listed-grown : grown_of (grown_by (fresh_tree e a) xs) ≡ true
-  listed-grown = growth_grown (grown_by (fresh_tree e a) xs) listed-growth
+  pub listed_grown : grown_of (grown_by (fresh_tree e a) xs) ≡ true
+  listed_grown = growth_grown (grown_by (fresh_tree e a) xs) listed_growth

@@ -27,7 +27,7 @@ pub const NODE_SIZE: usize = ACTION_SIZE + 1;
 pub const STATE_SIZE: usize = 1 + 2 * 4 + 2 + 8 + 2 + 2 + 8;
 
 // Every node's action and mark is written, or the leaves' alone; the upper ends follow the settings' actions, or do not.
-#[derive(Drop)]
+#[derive(Clone, Copy)]
 pub struct Layout {
     pub parents: bool,
     pub ends: bool,
