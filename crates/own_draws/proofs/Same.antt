@@ -1,5 +1,5 @@
 -- Over every list of acks, sends and ticks the sender with own draws is the sender that is handed the same ones. Assumes nothing.
-use mathlib.Core.Path.{◌≡◌, refl, sym, ap, ap₂, ◌∙◌}
+use mathlib.Core.Path.{◌≡◌, refl, ap, ◌∙◌}
 use mathlib.Core.Bool.{Bool, true, false}
 use mathlib.Core.List.{List, [], ◌∷◌}
 use lib.Ieee.{Float}
@@ -13,7 +13,7 @@ use Rattle.xoshiro.specs.declared.State.{State}
 use Rattle.xoshiro.specs.Xoshiro.{zeros_of, next_of}
 use Rattle.xoshiro.proofs.Zeros.{never_zeros}
 use Rattle.own_draws.specs.declared.Drawing.{Drawing}
-use Rattle.own_draws.specs.OwnDraws.{drawing, drawn_ack, generator_after, steps_at, due_of, own_ack_of}
+use Rattle.own_draws.specs.OwnDraws.{drawing, drawn_ack, generator_after, due_of, own_ack_of}
 use Rattle.own_draws.specs.OwnRuns.{OwnCall, ack, send, tick, own_reply_to, own_replies, own_end, generator_end, handing, steps_to, handed_calls, replies, end_of}
 
 -- a tree that is not grown refuses both alike, and the generator stays

@@ -6,7 +6,7 @@ use Rattle.sender.specs.declared.Reply.{Reply}
 use Rattle.sender.specs.declared.Reply.TheVariants.{Taken}
 use Rattle.sender.specs.SenderCall.{SenderCall}
 use Rattle.sender.specs.SenderCall as call
-use Rattle.sender.specs.Sender.{ack_of, send_of, tick_of, replied_to, left_by}
+use Rattle.sender.specs.Sender.{send_of, tick_of, replied_to, left_by}
 use Rattle.xoshiro.specs.declared.State.{State}
 use Rattle.own_draws.specs.declared.Drawing.{Drawing}
 use Rattle.own_draws.specs.OwnDraws.{drawing, draw_for, steps_at, own_ack_of}

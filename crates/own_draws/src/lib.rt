@@ -1,4 +1,6 @@
 // A sender on a box without a host: each draw comes from the box's own generator.
+#![tactic(auto)]
+
 ghost use Rattle.std.specs.Prelude.{◌≡◌};
 ghost use Rattle.own_draws.specs.OwnDraws.{own_ack_of};
 
@@ -9,7 +11,7 @@ use xoshiro::State;
 pub mod inner;
 
 // The reply to an ack, and the generator after it.
-#[derive(Drop)]
+#[derive(Clone, Copy)]
 pub struct Drawing {
     pub reply: Reply,
     pub generator: State,

@@ -54,15 +54,15 @@ admitted_so t s (admitted.At sent) (admitted.Refused k) draw = omega arith
 admitted_so t s (admitted.Refused k) y draw = omega arith
 
 module _ (t : RuleTree) where
-  ack-so : (s : Sender) (sent received : Float) (draw : Draw) → Numbered (ack_of t s sent received draw)
+  ack_so : (s : Sender) (sent received : Float) (draw : Draw) → Numbered (ack_of t s sent received draw)
   unfolding ack_of
-  ack-so s sent received draw =
+  ack_so s sent received draw =
       let so = admitted_so t s (admit_of sent) (admit_of received) draw in go (grown_of t) so
     where
       go : (b : Bool) → Numbered (ack_in t s sent received draw) → Numbered (cond b (ack_in t s sent received draw) (Refused 10))
       go true so = so
       go false so = omega arith
 
-  pub stopped-for : (s : Sender) (sent received : Float) (draw : Draw) {k : ℕ} → ack_of t s sent received draw ≡ Refused k → k ≢ 0
-  stopped-for s sent received draw {k} e z =
-      let p : 0 < k = subst Numbered e (ack-so s sent received draw) in let q : k ≡ 0 = z in omega arith
+  pub stopped_for : (s : Sender) (sent received : Float) (draw : Draw) {k : ℕ} → ack_of t s sent received draw ≡ Refused k → k ≢ 0
+  stopped_for s sent received draw {k} e z =
+      let p : 0 < k = subst Numbered e (ack_so s sent received draw) in let q : k ≡ 0 = z in omega arith

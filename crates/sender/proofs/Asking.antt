@@ -19,6 +19,9 @@ use Rattle.rule_tree.specs.declared.inner.leaf.Holder.TheVariants as holder
 use Rattle.rule_tree.specs.Nodes.{node_at_of, children_of, action_in}
 use Rattle.rule_tree.specs.Grown.{grown_of}
 use Rattle.rule_tree.specs.Leaf.{Ready, leaf_holding, found_by}
+use Rattle.rule_tree.proofs.Plain.{PointFits}
+use Rattle.rule_tree.proofs.Links.{grown_whole}
+use Rattle.rule_tree.proofs.Leaf as leaf
 use Rattle.rule_tree.proofs.Leaf.{leaf_below, found_by_lem}
 use Rattle.sender.specs.declared.Pending.{Pending}
 use Rattle.sender.specs.declared.Pending.TheVariants.{Idle, Repeat}
@@ -36,67 +39,71 @@ use Rattle.sender.specs.SenderCall.{on}
 use Rattle.sender.specs.Sender.{ack_of, replied_to, event_of}
 use Rattle.sender.specs.Asks.{ask_leaf, ask_pending, ask_admitted, ask_of, node_of, answered, ask_for, draw_of}
 
+-- the links and the root of a grown tree, gathered into locals
+pub gathered : (t : RuleTree) {cs : List ℕ} {root : Cube} → grown_of t ≡ true → PointFits t.ends → cs ≡ children_of t.nodes → root ≡ root_of t.ends → Ready cs root
+gathered t g f l z = leaf.ready t g (grown_whole t g f) l z
+
 -- ---- what is asked for is a node
 module _ (cs : List ℕ) (root : Cube) (ready : Ready cs root) where
-  leaf-node : (m : Sender) (p : Point) (h : Holder) → leaf_holding cs root p ≡ h → node_of (ask_leaf m h) < 513
+  leaf_node_lem : (m : Sender) (p : Point) (h : Holder) → leaf_holding cs root p ≡ h → node_of (ask_leaf m h) < 513
   unfolding node_of ask_leaf
-  leaf-node m p (holder.Leaf i) e = leaf_below cs root p ready i e
-  leaf-node m p holder.Nothing e = omega arith
+  leaf_node_lem m p (holder.Leaf i) e = leaf_below cs root p ready i e
+  leaf_node_lem m p holder.Nothing e = omega arith
 
-  pending-node : (m : Sender) (p : Pending) → node_of (ask_pending cs root m p) < 513
+  pending_node : (m : Sender) (p : Pending) → node_of (ask_pending cs root m p) < 513
   unfolding node_of ask_pending
-  pending-node m (Repeat left a) = omega arith
-  pending-node m Idle = leaf-node m (point_of m) (leaf_holding cs root (point_of m)) refl
+  pending_node m (Repeat left a) = omega arith
+  pending_node m Idle = leaf_node_lem m (point_of m) (leaf_holding cs root (point_of m)) refl
 
-  admitted-node : (s : Sender) (x y : Admitted) → node_of (ask_admitted cs root s x y) < 513
+  admitted_node : (s : Sender) (x y : Admitted) → node_of (ask_admitted cs root s x y) < 513
   unfolding node_of ask_admitted
-  admitted-node s (admitted.At sent) (admitted.At received) = pending-node (remembered s sent received) s.next_change
-  admitted-node s (admitted.At sent) (admitted.Refused k) = omega arith
-  admitted-node s (admitted.Refused k) y = omega arith
+  admitted_node s (admitted.At sent) (admitted.At received) = pending_node (remembered s sent received) s.next_change
+  admitted_node s (admitted.At sent) (admitted.Refused k) = omega arith
+  admitted_node s (admitted.Refused k) y = omega arith
 
-  asked-node : (s : Sender) (e : Event) → node_of (ask_for cs root s e) < 513
+  asked_node : (s : Sender) (e : Event) → node_of (ask_for cs root s e) < 513
   unfolding node_of ask_for
-  asked-node s (Ack sent received draw) = admitted-node s (admit_of sent) (admit_of received)
-  asked-node s (Send at) = omega arith
-  asked-node s Tick = omega arith
+  asked_node s (Ack sent received draw) = admitted_node s (admit_of sent) (admit_of received)
+  asked_node s (Send at) = omega arith
+  asked_node s Tick = omega arith
 
-  pub node-below : (s : Sender) (e : Event) {r : Asked} {node : ℕ} → r ≡ ask_for cs root s e → node ≡ node_of r → node < 513
-  node-below s e p n = let b = asked-node s e in omega (arith, n ∙ ap node_of p)
+  pub node_below : (s : Sender) (e : Event) {r : Asked} {node : ℕ} → r ≡ ask_for cs root s e → node ≡ node_of r → node < 513
+  node_below s e p n = let b = asked_node s e in omega (arith, n ∙ ap node_of p)
 
-  pub ack-below : (s : Sender) (sent received : Float) {r : Asked} {node : ℕ} → r ≡ ask_of cs root s sent received → node ≡ node_of r → node < 513
+  pub ack_below : (s : Sender) (sent received : Float) {r : Asked} {node : ℕ} → r ≡ ask_of cs root s sent received → node ≡ node_of r → node < 513
   unfolding ask_for
-  ack-below s sent received p n = node-below s (Ack sent received Absent) p n
+  ack_below s sent received p n = node_below s (Ack sent received Absent) p n
 
 -- ---- the answer with its action
 module _ (t : RuleTree) where
   abbrev by : Draw → Asked → Reply
   by draw r = answered r (action_in (node_at_of t.nodes (node_of r))) draw
 
-  leaf-by : (m : Sender) (draw : Draw) (h : Holder) → by draw (ask_leaf m h) ≡ ack_with m (found_by t.nodes h) draw
+  leaf_by : (m : Sender) (draw : Draw) (h : Holder) → by draw (ask_leaf m h) ≡ ack_with m (found_by t.nodes h) draw
   unfolding node_of answered ask_leaf ack_with found_by
-  leaf-by m draw (holder.Leaf i) = refl
-  leaf-by m draw holder.Nothing = refl
+  leaf_by m draw (holder.Leaf i) = refl
+  leaf_by m draw holder.Nothing = refl
 
-  pending-by : (m : Sender) (draw : Draw) (p : Pending) → by draw (ask_pending (children_of t.nodes) (root_of t.ends) m p) ≡ ack_pending t m p draw
+  pending_by : (m : Sender) (draw : Draw) (p : Pending) → by draw (ask_pending (children_of t.nodes) (root_of t.ends) m p) ≡ ack_pending t m p draw
   unfolding node_of answered ask_pending ack_pending
-  pending-by m draw (Repeat left a) = refl
-  pending-by m draw Idle =
-      leaf-by m draw (leaf_holding (children_of t.nodes) (root_of t.ends) (point_of m))
+  pending_by m draw (Repeat left a) = refl
+  pending_by m draw Idle =
+      leaf_by m draw (leaf_holding (children_of t.nodes) (root_of t.ends) (point_of m))
       ∙ ap (λ (l : Looked). ack_with m l draw) (found_by_lem t (point_of m))
 
-  admitted-by : (s : Sender) (draw : Draw) (x y : Admitted)
+  admitted_by : (s : Sender) (draw : Draw) (x y : Admitted)
       → by draw (ask_admitted (children_of t.nodes) (root_of t.ends) s x y) ≡ ack_admitted t s x y draw
   unfolding node_of answered ask_admitted ack_admitted
-  admitted-by s draw (admitted.At sent) (admitted.At received) = pending-by (remembered s sent received) draw s.next_change
-  admitted-by s draw (admitted.At sent) (admitted.Refused k) = refl
-  admitted-by s draw (admitted.Refused k) y = refl
+  admitted_by s draw (admitted.At sent) (admitted.At received) = pending_by (remembered s sent received) draw s.next_change
+  admitted_by s draw (admitted.At sent) (admitted.Refused k) = refl
+  admitted_by s draw (admitted.Refused k) y = refl
 
-  event-by : grown_of t ≡ true → (s : Sender) (e : Event)
+  event_by : grown_of t ≡ true → (s : Sender) (e : Event)
       → by (draw_of e) (ask_for (children_of t.nodes) (root_of t.ends) s e) ≡ replied_to s (on t e)
   unfolding node_of answered ask_for draw_of replied_to on ack_of
-  event-by g s (Ack sent received draw) = rw g (admitted-by s draw (admit_of sent) (admit_of received))
-  event-by g s (Send at) = refl
-  event-by g s Tick = refl
+  event_by g s (Ack sent received draw) = rw g (admitted_by s draw (admit_of sent) (admit_of received))
+  event_by g s (Send at) = refl
+  event_by g s Tick = refl
 
   -- of what the code has in its locals
   pub replied : (s : Sender) (e : Event) {cs : List ℕ} {root : Cube} {r : Asked} {node : ℕ} {own : Action} {d : Draw} {x : Reply} → grown_of t ≡ true
@@ -104,13 +111,13 @@ module _ (t : RuleTree) where
       → d ≡ draw_of e → x ≡ answered r own d → x ≡ replied_to s (on t e)
   replied s e {r = r} g l z a n o d f =
       f ∙ (λ j. answered r (o j) (d j)) ∙ ap (λ (i : ℕ). answered r (action_in (node_at_of t.nodes i)) (draw_of e)) n
-      ∙ ap (by (draw_of e)) (a ∙ (λ j. ask_for (l j) (z j) s e)) ∙ event-by g s e
+      ∙ ap (by (draw_of e)) (a ∙ (λ j. ask_for (l j) (z j) s e)) ∙ event_by g s e
 
-  pub ack-replied : (s : Sender) (sent received : Float) (draw : Draw) {cs : List ℕ} {root : Cube} {r : Asked} {node : ℕ} {own : Action} {x : Reply}
+  pub ack_replied : (s : Sender) (sent received : Float) (draw : Draw) {cs : List ℕ} {root : Cube} {r : Asked} {node : ℕ} {own : Action} {x : Reply}
       → grown_of t ≡ true → cs ≡ children_of t.nodes → root ≡ root_of t.ends → r ≡ ask_of cs root s sent received → node ≡ node_of r
       → own ≡ action_in (node_at_of t.nodes node) → x ≡ answered r own draw → x ≡ ack_of t s sent received draw
   unfolding ask_for draw_of replied_to on
-  ack-replied s sent received draw g l z a n o f = replied s (Ack sent received draw) g l z a n o refl f
+  ack_replied s sent received draw g l z a n o f = replied s (Ack sent received draw) g l z a n o refl f
 
 -- the event of an ack is the ack: it is tested for 10 once
 pub ack_event : (t : RuleTree) (s : Sender) (sent received : Float) (draw : Draw) → event_of t s (Ack sent received draw) ≡ ack_of t s sent received draw

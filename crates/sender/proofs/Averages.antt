@@ -75,9 +75,9 @@ module _ (old gap : Float) (p : T (nonneg old)) (q : T (nonneg gap)) (first : Ex
         (exactly pos-D both)
 
     -- which is old + (gap - old) / 8: eight averages and old are eight times old and gap, all over den old * den gap * den average
-    pub moved-an-eighth : 8 * (num (average old gap) * (den old * den gap)) + num old * den gap * den (average old gap)
+    pub moved_an_eighth : 8 * (num (average old gap) * (den old * den gap)) + num old * den gap * den (average old gap)
         ≡ (8 * (num old * den gap) + num gap * den old) * den (average old gap)
-    moved-an-eighth =
+    moved_an_eighth =
         steps (num old) (den old) (num gap) (den gap) (num (average old gap)) (den (average old gap))
         (cross (average old gap) _ _ paper)
 

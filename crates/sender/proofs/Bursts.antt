@@ -4,8 +4,8 @@ use mathlib.Core.List.{List, [], ◌∷◌, ◌++◌, append_assoc, append-nil}
 use Prim.Native.Nat.{ℕ, suc, ◌+◌, ◌<◌, ◌≤◌}
 use native.Mathlib.Numerals.{add-one}
 use native.Mathlib.Omega.{arith}
-use lib.ListN.{length, get_or, take, drop, set, length-append}
-use lib.Seq.{drop-cons, set_at, append_snoc, get_or-take, length-take-le, drop-length}
+use lib.ListN.{length, get_or, drop, set, length-append}
+use lib.Seq.{drop-cons, set_at, get_or-take, length-take-le, drop-length}
 use Rattle.rule_tree.specs.declared.RuleTree.{RuleTree}
 use Rattle.sender.specs.declared.Ack.{Ack}
 use Rattle.sender.specs.declared.Burst.{Burst}
@@ -15,7 +15,7 @@ use Rattle.sender.specs.declared.Reply.{Reply}
 use Rattle.sender.specs.declared.Reply.TheVariants.{Taken, Refused}
 use Rattle.sender.specs.declared.Sender.{Sender}
 use Rattle.sender.specs.Sender.{ack_of, left_by}
-use Rattle.sender.specs.Burst.{Course, Room, acks_in, ahead, course_of, ends_with, flag_of, onwards, ran_by}
+use Rattle.sender.specs.Burst.{Course, acks_in, ahead, course_of, ends_with, flag_of, onwards, ran_by}
 
 -- ---- one ack ahead of the others
 module _ (t : RuleTree) (s : Sender) (x : Ack) (xs : List Ack) {r : Reply} (is : r ≡ ack_of t s x.sent x.received x.draw) where
@@ -27,9 +27,9 @@ module _ (t : RuleTree) (s : Sender) (x : Ack) (xs : List Ack) {r : Reply} (is :
   unfolding onwards left_by
   first_taken e = first ∙ ap (λ (z : Reply). onwards s z (course_of t (left_by s z) xs)) e
 
-  pub first-refused : {k : ℕ} → r ≡ Refused k → course_of t s (x ∷ xs) ≡ ends_with s k
+  pub first_refused : {k : ℕ} → r ≡ Refused k → course_of t s (x ∷ xs) ≡ ends_with s k
   unfolding onwards
-  first-refused e = first ∙ ap (λ (z : Reply). onwards s z (course_of t (left_by s z) xs)) e
+  first_refused e = first ∙ ap (λ (z : Reply). onwards s z (course_of t (left_by s z) xs)) e
 
 pub ahead_ahead : (ws vs fs gs : List ℕ) (c : Course) → ahead ws fs (ahead vs gs c) ≡ ahead (ws ++ vs) (fs ++ gs) c
 ahead_ahead ws vs fs gs c =
@@ -96,7 +96,7 @@ module _ (t : RuleTree) (b : Burst) (s : Sender) (w₀ f₀ : List ℕ) where
             drop-cons (acks_in b) i d (omega arith) ∙ (λ j. (get_or-take b.count b.acks i d h ∙ sym p) j ∷ drop (sym (add-one i) j) (acks_in b))
 
         pub stopped : {k : ℕ} → r ≡ Refused k → Ends w f (record { sender = left; taken = i; stopped = k })
-        stopped e = ends (ap (course_of t left) next ∙ first-refused t left x (drop (i + 1) (acks_in b)) is e)
+        stopped e = ends (ap (course_of t left) next ∙ first_refused t left x (drop (i + 1) (acks_in b)) is e)
 
         pub turn : b.count ≤ length w₀ → b.count ≤ length f₀ → {held : Held} {flag : ℕ} → r ≡ Taken held → flag ≡ flag_of held.clipped
             → SoFar (set w i held.window) (set f i flag) held.sender (i + 1)

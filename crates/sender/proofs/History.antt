@@ -158,50 +158,50 @@ pub record Alike (s u : Sender) (r q : Reply) : Type 0 where
 
 -- an ack's number, and the past and the mode after it, are made of the past and the mode before it
 module _ {s u : Sender} (e : Same s u) (t : RuleTree) (draw : Draw) where
-  refused-alike : (k : ℕ) → Alike s u (Refused k) (Refused k)
+  refused_alike : (k : ℕ) → Alike s u (Refused k) (Refused k)
   unfolding left_by
-  refused-alike k = record { leaves = e; number = refl }
+  refused_alike k = record { leaves = e; number = refl }
 
-  settled-alike : {m n : Sender} (a : Action) (next : Pending) → Same m n → Alike s u (settled m a next) (settled n a next)
+  settled_alike : {m n : Sender} (a : Action) (next : Pending) → Same m n → Alike s u (settled m a next) (settled n a next)
   unfolding left_by number_of
-  settled-alike a next mn = record { leaves = paced_same a next mn; number = refl }
+  settled_alike a next mn = record { leaves = paced_same a next mn; number = refl }
 
-  drawn-alike : {m n : Sender} → Same m n → (a : Action) (d : Drawn) → Alike s u (ack_drawn m a d) (ack_drawn n a d)
+  drawn_alike : {m n : Sender} → Same m n → (a : Action) (d : Drawn) → Alike s u (ack_drawn m a d) (ack_drawn n a d)
   unfolding ack_drawn
-  drawn-alike mn a (Next next) = settled-alike a next mn
-  drawn-alike mn a Missing = refused-alike 5
+  drawn_alike mn a (Next next) = settled_alike a next mn
+  drawn_alike mn a Missing = refused_alike 5
 
-  with-alike : {m n : Sender} → Same m n → (l : Looked) → Alike s u (ack_with m l draw) (ack_with n l draw)
+  with_alike : {m n : Sender} → Same m n → (l : Looked) → Alike s u (ack_with m l draw) (ack_with n l draw)
   unfolding ack_with
-  with-alike {m} {n} mn (looked.Found a) =
+  with_alike {m} {n} mn (looked.Found a) =
       subst (λ (mode : RepeatMode). Alike s u (ack_drawn m a (drawn m.repeat_actions draw a)) (ack_drawn n a (drawn mode draw a)))
-      mn.mode (drawn-alike mn a (drawn m.repeat_actions draw a))
-  with-alike mn looked.Nothing = refused-alike 22
-  with-alike mn (looked.Refused k) = refused-alike 22
+      mn.mode (drawn_alike mn a (drawn m.repeat_actions draw a))
+  with_alike mn looked.Nothing = refused_alike 22
+  with_alike mn (looked.Refused k) = refused_alike 22
 
-  pending-alike : {m n : Sender} → Same m n → (p : Pending) → Alike s u (ack_pending t m p draw) (ack_pending t n p draw)
+  pending_alike : {m n : Sender} → Same m n → (p : Pending) → Alike s u (ack_pending t m p draw) (ack_pending t n p draw)
   unfolding ack_pending
-  pending-alike mn (Repeat k a) = settled-alike a (repeat_next k a) mn
-  pending-alike {m} {n} mn Idle =
+  pending_alike mn (Repeat k a) = settled_alike a (repeat_next k a) mn
+  pending_alike {m} {n} mn Idle =
       subst (λ (p : Point). Alike s u (ack_with m (found_in t (point_of m)) draw) (ack_with n (found_in t p) draw))
-      (ap looked_at mn.past) (with-alike mn (found_in t (point_of m)))
+      (ap looked_at mn.past) (with_alike mn (found_in t (point_of m)))
 
-  admitted-alike : (x y : Admitted) → Alike s u (ack_admitted t s x y draw) (ack_admitted t u x y draw)
+  admitted_alike : (x y : Admitted) → Alike s u (ack_admitted t s x y draw) (ack_admitted t u x y draw)
   unfolding ack_admitted
-  admitted-alike (admitted.At x) (admitted.At y) =
+  admitted_alike (admitted.At x) (admitted.At y) =
       subst
       (λ (p : Pending). Alike s u (ack_pending t (remembered s x y) s.next_change draw) (ack_pending t (remembered u x y) p draw))
-      (ap (λ (p : Past). p.next_change_lem) e.past) (pending-alike (remembered_same x y e) s.next_change)
-  admitted-alike (admitted.At x) (admitted.Refused k) = refused-alike 1
-  admitted-alike (admitted.Refused k) y = refused-alike 1
+      (ap (λ (p : Past). p.next_change_lem) e.past) (pending_alike (remembered_same x y e) s.next_change)
+  admitted_alike (admitted.At x) (admitted.Refused k) = refused_alike 1
+  admitted_alike (admitted.Refused k) y = refused_alike 1
 
-  pub ack-alike : (sent received : Float) → Alike s u (ack_of t s sent received draw) (ack_of t u sent received draw)
+  pub ack_alike : (sent received : Float) → Alike s u (ack_of t s sent received draw) (ack_of t u sent received draw)
   unfolding ack_of
-  ack-alike sent received = go (grown_of t)
+  ack_alike sent received = go (grown_of t)
     where
       go : (b : Bool) → Alike s u (cond b (ack_in t s sent received draw) (Refused 10)) (cond b (ack_in t u sent received draw) (Refused 10))
-      go true = admitted-alike (admit_of sent) (admit_of received)
-      go false = refused-alike 10
+      go true = admitted_alike (admit_of sent) (admit_of received)
+      go false = refused_alike 10
 
 -- the taken acks alone leave the same past
 ack_run : (s u : Sender) (c : SenderCall RuleTree) (cs : List (SenderCall RuleTree)) → ((x y : Sender) → Same x y → Same (run x cs) (run y (taken_acks x cs))) → Same s u
@@ -215,7 +215,7 @@ unfolding run taken_acks
 run_same s u [] e = e
 run_same s u (ack t sent received draw ∷ cs) e =
     ack_run s u (ack t sent received draw) cs (λ x y k. run_same x y cs k) e (ack_of t s sent received draw)
-    (ack-alike e t draw sent received).leaves
+    (ack_alike e t draw sent received).leaves
 run_same s u (send at ∷ cs) e = run_same (after s (send at)) u cs (send_same s u at e)
 run_same s u (tick ∷ cs) e = run_same (after s tick) u cs (tick_same s u e)
 
@@ -232,4 +232,4 @@ pending_history s cs = ap (λ (p : Past). p.next_change_lem) (history s cs)
 -- and a later ack has the same number
 pub number_history : (s : Sender) (cs : List (SenderCall RuleTree)) (t : RuleTree) (sent received : Float) (draw : Draw)
     → number_of (ack_of t (run s cs) sent received draw) ≡ number_of (ack_of t (run s (taken_acks s cs)) sent received draw)
-number_history s cs t sent received draw = (ack-alike (run_same s s cs (record { past = refl; mode = refl })) t draw sent received).number
+number_history s cs t sent received draw = (ack_alike (run_same s s cs (record { past = refl; mode = refl })) t draw sent received).number

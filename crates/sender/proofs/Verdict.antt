@@ -67,34 +67,34 @@ module _ (t : RuleTree) (s : Sender) (from at : Time) (draw : Draw) where
   m = remembered s from at
 
   -- an ack with nothing pending, by where the point lies
-  at-idle : s.next_change ≡ Idle → ack_at t s from at draw ≡ ack_with m (found_in t (point_of m)) draw
+  at_idle : s.next_change ≡ Idle → ack_at t s from at draw ≡ ack_with m (found_in t (point_of m)) draw
   unfolding ack_pending
-  at-idle e = ap (λ (p : Pending). ack_pending t m p draw) e
+  at_idle e = ap (λ (p : Pending). ack_pending t m p draw) e
 
   at_out : s.next_change ≡ Idle → in_root t s from at ≡ false → ack_at t s from at draw ≡ Refused 22
   unfolding ack_with found_in
-  at_out e o = at-idle e ∙ ap (λ (x : Bool). ack_with m (cond x (Found (leaf_action t s from at)) Nothing) draw) o
+  at_out e o = at_idle e ∙ ap (λ (x : Bool). ack_with m (cond x (Found (leaf_action t s from at)) Nothing) draw) o
 
-  at-inside : s.next_change ≡ Idle → in_root t s from at ≡ true
+  at_inside : s.next_change ≡ Idle → in_root t s from at ≡ true
       → ack_at t s from at draw ≡ ack_drawn m (leaf_action t s from at) (drawn s.repeat_actions draw (leaf_action t s from at))
   unfolding ack_with found_in
-  at-inside e i = at-idle e ∙ ap (λ (x : Bool). ack_with m (cond x (Found (leaf_action t s from at)) Nothing) draw) i
+  at_inside e i = at_idle e ∙ ap (λ (x : Bool). ack_with m (cond x (Found (leaf_action t s from at)) Nothing) draw) i
 
-  at-undrawn : Undrawn t s from at draw → ack_at t s from at draw ≡ Refused 5
+  at_undrawn : Undrawn t s from at draw → ack_at t s from at draw ≡ Refused 5
   unfolding ack_drawn
-  at-undrawn u = at-inside u.idle u.inside ∙ ap (ack_drawn m (leaf_action t s from at)) u.missing
+  at_undrawn u = at_inside u.idle u.inside ∙ ap (ack_drawn m (leaf_action t s from at)) u.missing
 
-  at-by : {a : Action} {next : Pending} → By t s from at draw a next → ack_at t s from at draw ≡ settled m a next
+  at_by : {a : Action} {next : Pending} → By t s from at draw a next → ack_at t s from at draw ≡ settled m a next
   unfolding ack_pending ack_drawn
-  at-by (repeated e) = ap (λ (p : Pending). ack_pending t m p draw) e
-  at-by (found e i n) = at-inside e i ∙ ap (ack_drawn m (leaf_action t s from at)) n
+  at_by (repeated e) = ap (λ (p : Pending). ack_pending t m p draw) e
+  at_by (found e i n) = at_inside e i ∙ ap (ack_drawn m (leaf_action t s from at)) n
 
   -- the sender after a taken ack, with its window and its flag
   abbrev held : Action → Pending → Held
   held a next = record { sender = paced m a next; window = window_now (paced m a next); clipped = (rule_of a s.window).clipped }
 
-  paced-so : (a : Action) (next : Pending) → Paced s a (held a next)
-  paced-so a next = record { window = refl; wait = refl; shown = refl; clipped = refl }
+  paced_so : (a : Action) (next : Pending) → Paced s a (held a next)
+  paced_so a next = record { window = refl; wait = refl; shown = refl; clipped = refl }
 
   -- ---- one of the three is the case
   data Answer : Reply → Type 0 where
@@ -106,13 +106,13 @@ module _ (t : RuleTree) (s : Sender) (from at : Time) (draw : Draw) where
   answer = pend s.next_change refl
     where
       by : {a : Action} {next : Pending} → By t s from at draw a next → Answer (ack_at t s from at draw)
-      by b = subst⁻¹ Answer (at-by b) (taken b)
+      by b = subst⁻¹ Answer (at_by b) (taken b)
 
       draws : (d : Drawn) → s.next_change ≡ Idle → in_root t s from at ≡ true
           → drawn s.repeat_actions draw (leaf_action t s from at) ≡ d → Answer (ack_at t s from at draw)
       draws (Next next) e i n = by (found e i n)
       draws Missing e i n =
-          let u : Undrawn t s from at draw = record { idle = e; inside = i; missing = n } in subst⁻¹ Answer (at-undrawn u) (undrawn u)
+          let u : Undrawn t s from at draw = record { idle = e; inside = i; missing = n } in subst⁻¹ Answer (at_undrawn u) (undrawn u)
 
       lies : (x : Bool) → s.next_change ≡ Idle → in_root t s from at ≡ x → Answer (ack_at t s from at draw)
       lies false e o = subst⁻¹ Answer (at_out e o) (outside (record { idle = e; out = o }))
@@ -122,20 +122,20 @@ module _ (t : RuleTree) (s : Sender) (from at : Time) (draw : Draw) where
       pend Idle e = lies (in_root t s from at) e refl
       pend (Repeat left a) e = by (repeated e)
 
-  only-22 : {r : Reply} → Answer r → r ≡ Refused 22 → Outside t s from at
-  only-22 (outside o) e = o
-  only-22 (undrawn u) e = let z : ◌≡◌ {A = ℕ} 5 22 = cc in absurd (omega arith)
-  only-22 (taken b) e = let z : ◌≡◌ {A = ℕ} 0 1 = cc in absurd (omega arith)
+  only_22 : {r : Reply} → Answer r → r ≡ Refused 22 → Outside t s from at
+  only_22 (outside o) e = o
+  only_22 (undrawn u) e = let z : ◌≡◌ {A = ℕ} 5 22 = cc in absurd (omega arith)
+  only_22 (taken b) e = let z : ◌≡◌ {A = ℕ} 0 1 = cc in absurd (omega arith)
 
-  only-5 : {r : Reply} → Answer r → r ≡ Refused 5 → Undrawn t s from at draw
-  only-5 (outside o) e = let z : ◌≡◌ {A = ℕ} 22 5 = cc in absurd (omega arith)
-  only-5 (undrawn u) e = u
-  only-5 (taken b) e = let z : ◌≡◌ {A = ℕ} 0 1 = cc in absurd (omega arith)
+  only_5 : {r : Reply} → Answer r → r ≡ Refused 5 → Undrawn t s from at draw
+  only_5 (outside o) e = let z : ◌≡◌ {A = ℕ} 22 5 = cc in absurd (omega arith)
+  only_5 (undrawn u) e = u
+  only_5 (taken b) e = let z : ◌≡◌ {A = ℕ} 0 1 = cc in absurd (omega arith)
 
-  only-taken : {r : Reply} (h : Held) → Answer r → r ≡ Taken h → (a : Action) × (next : Pending) × By t s from at draw a next × Paced s a h
-  only-taken h (outside o) e = let z : ◌≡◌ {A = ℕ} 0 1 = cc in absurd (omega arith)
-  only-taken h (undrawn u) e = let z : ◌≡◌ {A = ℕ} 0 1 = cc in absurd (omega arith)
-  only-taken h (taken {a} {next} b) e = (a, next, b, subst (λ (z : Held). Paced s a z) (cc) (paced-so a next))
+  only_taken : {r : Reply} (h : Held) → Answer r → r ≡ Taken h → (a : Action) × (next : Pending) × By t s from at draw a next × Paced s a h
+  only_taken h (outside o) e = let z : ◌≡◌ {A = ℕ} 0 1 = cc in absurd (omega arith)
+  only_taken h (undrawn u) e = let z : ◌≡◌ {A = ℕ} 0 1 = cc in absurd (omega arith)
+  only_taken h (taken {a} {next} b) e = (a, next, b, subst (λ (z : Held). Paced s a z) (cc) (paced_so a next))
 
 -- ---- the laws, over the answer to an ack at admitted moments
 module _ (t : RuleTree) (s : Sender) (sent received : Float) (draw : Draw) (from at : Time) (f : admit_of sent ≡ admitted.At from)
@@ -149,23 +149,23 @@ module _ (t : RuleTree) (s : Sender) (sent received : Float) (draw : Draw) (from
     pub refused_22 : Outside t s from at → ack_in t s sent received draw ≡ Refused 22
     refused_22 o = is ∙ at_out t s from at draw o.idle o.out
 
-    pub refused-22-only : ack_in t s sent received draw ≡ Refused 22 → Outside t s from at
-    refused-22-only e = only-22 t s from at draw (answer t s from at draw) (sym is ∙ e)
+    pub refused_22_only : ack_in t s sent received draw ≡ Refused 22 → Outside t s from at
+    refused_22_only e = only_22 t s from at draw (answer t s from at draw) (sym is ∙ e)
 
     -- 5 just where nothing is pending, the point is inside, and the draw fails
     pub refused_5 : Undrawn t s from at draw → ack_in t s sent received draw ≡ Refused 5
-    refused_5 u = is ∙ at-undrawn t s from at draw u
+    refused_5 u = is ∙ at_undrawn t s from at draw u
 
-    pub refused-5-only : ack_in t s sent received draw ≡ Refused 5 → Undrawn t s from at draw
-    refused-5-only e = only-5 t s from at draw (answer t s from at draw) (sym is ∙ e)
+    pub refused_5_only : ack_in t s sent received draw ≡ Refused 5 → Undrawn t s from at draw
+    refused_5_only e = only_5 t s from at draw (answer t s from at draw) (sym is ∙ e)
 
     -- else it is taken, and sets the window and the wait by the pending action or by the leaf's
-    pub taken-by : {a : Action} {next : Pending} → By t s from at draw a next → (h : Held) × (ack_in t s sent received draw ≡ Taken h) × Paced s a h
-    taken-by {a} {next} b =
-        (held t s from at draw a next, is ∙ at-by t s from at draw b, paced-so t s from at draw a next)
+    pub taken_by : {a : Action} {next : Pending} → By t s from at draw a next → (h : Held) × (ack_in t s sent received draw ≡ Taken h) × Paced s a h
+    taken_by {a} {next} b =
+        (held t s from at draw a next, is ∙ at_by t s from at draw b, paced_so t s from at draw a next)
 
-    pub taken-only : (h : Held) → ack_in t s sent received draw ≡ Taken h → (a : Action) × (next : Pending) × By t s from at draw a next × Paced s a h
-    taken-only h e = only-taken t s from at draw h (answer t s from at draw) (sym is ∙ e)
+    pub taken_only : (h : Held) → ack_in t s sent received draw ≡ Taken h → (a : Action) × (next : Pending) × By t s from at draw a next × Paced s a h
+    taken_only h e = only_taken t s from at draw h (answer t s from at draw) (sym is ∙ e)
 
 -- over a grown tree this is what the call answers
 pub grown_ack : (t : RuleTree) (s : Sender) (sent received : Float) (draw : Draw) → grown_of t ≡ true

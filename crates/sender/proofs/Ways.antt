@@ -37,12 +37,12 @@ module _ (cs : List ℕ) (root : Cube) (s : Sender) (sent received : Float) {x :
       unfolding ask_admitted
       asks = rw (← p, e, ← q, f) (ap (λ (z : Sender). ask_pending cs root z z.next_change) is)
 
-      pub by-repeat : {left : ℕ} {a : Action} {next : Pending} {r : Reply} → m.next_change ≡ Repeat left a → next ≡ repeat_next left a
+      pub by_repeat : {left : ℕ} {a : Action} {next : Pending} {r : Reply} → m.next_change ≡ Repeat left a → next ≡ repeat_next left a
           → r ≡ settled m a next → Answer r ≡ ask_of cs root s sent received
       unfolding ask_pending
-      by-repeat g n h = rw (← asks, g, h, n)
+      by_repeat g n h = rw (← asks, g, h, n)
 
-      pub by-leaf : {pt : Point} {h l : Holder} → m.next_change ≡ Idle → pt ≡ point_of m → h ≡ leaf_holding cs root pt → h ≡ l
+      pub by_leaf : {pt : Point} {h l : Holder} → m.next_change ≡ Idle → pt ≡ point_of m → h ≡ leaf_holding cs root pt → h ≡ l
           → ask_leaf m l ≡ ask_of cs root s sent received
       unfolding ask_pending
-      by-leaf g o h e = rw (← e, h, o, ← asks, g)
+      by_leaf g o h e = rw (← e, h, o, ← asks, g)

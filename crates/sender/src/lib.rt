@@ -1,4 +1,6 @@
 // The sender: it remembers its acks, looks its memory up in a rule tree, and paces itself by the action found.
+#![tactic(auto)]
+
 ghost use Rattle.std.specs.Prelude.{◌≡◌};
 ghost use Rattle.sender.specs.Sender.{new_of, ack_of, send_of, tick_of, event_of, wake_of};
 ghost use Rattle.sender.specs.Burst.{burst_of, windows_after, flags_after};
@@ -10,35 +12,35 @@ use rule_tree::RuleTree;
 pub mod inner;
 
 // A moment, or none.
-#[derive(Drop)]
+#[derive(Clone, Copy)]
 pub enum Moment {
     Never,
     At(Time),
 }
 
 // A running average of gaps, or none while there was no gap.
-#[derive(Drop)]
+#[derive(Clone, Copy)]
 pub enum Average {
     Empty,
     Of(TimeSpan),
 }
 
 // The shortest and the current round trip, or none before the first ack.
-#[derive(Drop)]
+#[derive(Clone, Copy)]
 pub enum Rtt {
     Unknown,
     Known(TimeSpan, TimeSpan),
 }
 
 // An action that serves the next acks with no lookup, one more than the number held.
-#[derive(Drop)]
+#[derive(Clone, Copy)]
 pub enum Pending {
     Idle,
     Repeat(u32, Action),
 }
 
 // How often an action that was looked up is repeated: never, as often always, or as a draw says.
-#[derive(Drop)]
+#[derive(Clone, Copy)]
 pub enum RepeatMode {
     Off,
     Always(u32),
@@ -46,21 +48,21 @@ pub enum RepeatMode {
 }
 
 // A draw that is handed in, or none.
-#[derive(Drop)]
+#[derive(Clone, Copy)]
 pub enum Draw {
     Absent,
     Given(u32),
 }
 
 // What happens to a sender: an ack of what was sent at a moment, received at another, with a draw or none; a send at a moment; a tick.
-#[derive(Drop)]
+#[derive(Clone, Copy)]
 pub enum Event {
     Ack(f64, f64, Draw),
     Send(f64),
     Tick,
 }
 
-#[derive(Drop)]
+#[derive(Clone, Copy)]
 pub struct Sender {
     pub last_ack: Moment,
     pub last_ack_send: Moment,
@@ -75,21 +77,21 @@ pub struct Sender {
 }
 
 // A sender after a call, with the window that the call answers and whether its action's window was clipped.
-#[derive(Drop)]
+#[derive(Clone, Copy)]
 pub struct Held {
     pub sender: Sender,
     pub window: u32,
     pub clipped: bool,
 }
 
-#[derive(Drop)]
+#[derive(Clone, Copy)]
 pub enum Reply {
     Taken(Held),
     Refused(u32),
 }
 
 // An ack of a burst: of what was sent at a moment, received at another, with a draw or none.
-#[derive(Drop)]
+#[derive(Clone, Copy)]
 pub struct Ack {
     pub sent: f64,
     pub received: f64,
@@ -97,33 +99,33 @@ pub struct Ack {
 }
 
 // A burst: the first `count` of its acks.
-#[derive(Drop)]
+#[derive(Clone, Copy)]
 pub struct Burst {
     pub count: usize,
     pub acks: [Ack; 256],
 }
 
 // A sender after a burst, how many acks were taken, and the number of the refusal that ended it, or 0.
-#[derive(Drop)]
+#[derive(Clone, Copy)]
 pub struct Ran {
     pub sender: Sender,
     pub taken: usize,
     pub stopped: u32,
 }
 
-#[derive(Drop)]
+#[derive(Clone, Copy)]
 pub enum BurstReply {
     Done(Ran),
     Refused(u32),
 }
 
-#[derive(Drop)]
+#[derive(Clone, Copy)]
 pub enum Made {
     Ready(Sender),
     Refused(u32),
 }
 
-#[derive(Drop)]
+#[derive(Clone, Copy)]
 pub enum Wake {
     At(Time),
     Never,

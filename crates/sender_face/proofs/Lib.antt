@@ -1,3 +1,1 @@
-mod Arms
 mod Replies
-mod Stored

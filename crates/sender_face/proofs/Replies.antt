@@ -58,27 +58,27 @@ AckKeeps s (Taken d) = with_ack s d.sender ≡ d.sender
 AckKeeps s (Refused k) = Unit {0}
 
 module _ (s : Sender) where
-  drawn-keeps : (from at : Time) (a : Action) (n : Drawn) → AckKeeps s (ack_drawn (remembered s from at) a n)
+  drawn_keeps : (from at : Time) (a : Action) (n : Drawn) → AckKeeps s (ack_drawn (remembered s from at) a n)
   unfolding ack_drawn
-  drawn-keeps from at a (Next next) = refl
-  drawn-keeps from at a Missing = tt
+  drawn_keeps from at a (Next next) = refl
+  drawn_keeps from at a Missing = tt
 
-  looked-keeps : (from at : Time) (l : Looked) (draw : Draw) → AckKeeps s (ack_with (remembered s from at) l draw)
+  looked_keeps : (from at : Time) (l : Looked) (draw : Draw) → AckKeeps s (ack_with (remembered s from at) l draw)
   unfolding ack_with
-  looked-keeps from at (looked.Found a) draw = drawn-keeps from at a (drawn s.repeat_actions draw a)
-  looked-keeps from at looked.Nothing draw = tt
-  looked-keeps from at (looked.Refused k) draw = tt
+  looked_keeps from at (looked.Found a) draw = drawn_keeps from at a (drawn s.repeat_actions draw a)
+  looked_keeps from at looked.Nothing draw = tt
+  looked_keeps from at (looked.Refused k) draw = tt
 
-  pending-keeps : (t : RuleTree) (from at : Time) (p : Pending) (draw : Draw) → AckKeeps s (ack_pending t (remembered s from at) p draw)
+  pending_keeps : (t : RuleTree) (from at : Time) (p : Pending) (draw : Draw) → AckKeeps s (ack_pending t (remembered s from at) p draw)
   unfolding ack_pending
-  pending-keeps t from at (Repeat left a) draw = refl
-  pending-keeps t from at Idle draw = looked-keeps from at (found_in t (point_of (remembered s from at))) draw
+  pending_keeps t from at (Repeat left a) draw = refl
+  pending_keeps t from at Idle draw = looked_keeps from at (found_in t (point_of (remembered s from at))) draw
 
-  admitted-keeps : (t : RuleTree) (x y : Admitted) (draw : Draw) → AckKeeps s (ack_admitted t s x y draw)
+  admitted_keeps : (t : RuleTree) (x y : Admitted) (draw : Draw) → AckKeeps s (ack_admitted t s x y draw)
   unfolding ack_admitted
-  admitted-keeps t (admitted.At from) (admitted.At at) draw = pending-keeps t from at s.next_change draw
-  admitted-keeps t (admitted.At from) (admitted.Refused k) draw = tt
-  admitted-keeps t (admitted.Refused k) y draw = tt
+  admitted_keeps t (admitted.At from) (admitted.At at) draw = pending_keeps t from at s.next_change draw
+  admitted_keeps t (admitted.At from) (admitted.Refused k) draw = tt
+  admitted_keeps t (admitted.Refused k) y draw = tt
 
   tested : (r : Reply) → AckKeeps s r → (grown : Bool) → AckKeeps s (cond grown r (Refused 10))
   tested r k true = k
@@ -86,7 +86,7 @@ module _ (s : Sender) where
 
   ack_keeps : (t : RuleTree) (sent received : Float) (draw : Draw) → AckKeeps s (ack_of t s sent received draw)
   unfolding ack_of
-  ack_keeps t sent received draw = tested (ack_in t s sent received draw) (admitted-keeps t (admit_of sent) (admit_of received) draw) (grown_of t)
+  ack_keeps t sent received draw = tested (ack_in t s sent received draw) (admitted_keeps t (admit_of sent) (admit_of received) draw) (grown_of t)
 
-  pub ack-left : (t : RuleTree) (sent received : Float) (draw : Draw) (d : Held) → Taken d ≡ ack_of t s sent received draw → with_ack s d.sender ≡ d.sender
-  ack-left t sent received draw d e = subst (AckKeeps s) (sym e) (ack_keeps t sent received draw)
+  pub ack_left : (t : RuleTree) (sent received : Float) (draw : Draw) (d : Held) → Taken d ≡ ack_of t s sent received draw → with_ack s d.sender ≡ d.sender
+  ack_left t sent received draw d e = subst (AckKeeps s) (sym e) (ack_keeps t sent received draw)

@@ -1,5 +1,4 @@
 -- What a call on the caller's sender hands back, and what it leaves, from the reply of the call by value.
-use Rattle.sender.specs.declared.Held.{Held}
 use Rattle.sender.specs.declared.Reply.{Reply}
 use Rattle.sender.specs.declared.Reply.TheVariants as reply
 use Rattle.sender_face.specs.declared.Answer.{Answer}

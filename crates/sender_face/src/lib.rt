@@ -1,5 +1,7 @@
 // The calls that change the caller's sender: it is lent, and written in the fields that the call changes.
 // A refused call writes nothing.
+#![tactic(auto)]
+
 ghost use Rattle.std.specs.Prelude.{◌≡◌};
 ghost use Rattle.sender.specs.Sender.{send_of, ack_of, tick_of};
 ghost use Rattle.sender_face.specs.Face.{window_from, left_by};
@@ -8,7 +10,7 @@ use rule_tree::RuleTree;
 use sender::{Draw, Moment, Reply, Sender};
 
 // The window that a call answers and whether its action's window was clipped, or the refusal's number.
-#[derive(Drop)]
+#[derive(Clone, Copy)]
 pub enum Answer {
     Window(u32, bool),
     Refused(u32),

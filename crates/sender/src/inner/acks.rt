@@ -13,7 +13,7 @@ use remy::cube::Cube;
 use rule_tree::inner::leaf::{Holder, leaf_of};
 
 // What an ack asks for: the action of a leaf, for a sender that has the ack in memory; or nothing, and its answer is known.
-#[derive(Drop)]
+#[derive(Clone, Copy)]
 pub enum Asked {
     Leaf(Sender, u16),
     Answer(Reply),
@@ -30,7 +30,7 @@ pub fn draw_from(n: u64) -> Draw
 }
 
 // What a draw makes of the action that was looked up, or that a draw is due and absent or outside.
-#[derive(Drop)]
+#[derive(Clone, Copy)]
 pub enum Drawn {
     Next(Pending),
     Missing,
