@@ -39,8 +39,8 @@ unfolding missing_among
 missing_is xs = refl
 
 module _ (xs : List ℕ) (some : 0 < total xs) where
-  pub remainder-below : (i : ℕ) → remainder_at xs i < total xs
-  remainder-below i = mod-lt (1000 * get_or xs i 0) some
+  pub remainder_below : (i : ℕ) → remainder_at xs i < total xs
+  remainder_below i = mod-lt (1000 * get_or xs i 0) some
 
   pub parted : (i : ℕ) → cut_at xs i * total xs + remainder_at xs i ≡ 1000 * get_or xs i 0
   parted i = div-add-mod' (1000 * get_or xs i 0) (total xs)
@@ -57,8 +57,8 @@ module _ (xs : List ℕ) (some : 0 < total xs) where
   pub cuts_fit : sum_below (length xs) (cut_at xs) ≤ 1000
   cuts_fit = le_of_mul-le-mul_right {m = sum_below (length xs) (cut_at xs)} {n = 1000} {k = total xs} (let h = whole in omega arith) some
 
-  pub cuts-fit-part : (n : ℕ) → n ≤ length xs → sum_below n (cut_at xs) ≤ 1000
-  cuts-fit-part n l = let h = cuts_fit in omega (arith, sum_grows (length xs) n (cut_at xs) l)
+  pub cuts_fit_part : (n : ℕ) → n ≤ length xs → sum_below n (cut_at xs) ≤ 1000
+  cuts_fit_part n l = let h = cuts_fit in omega (arith, sum_grows (length xs) n (cut_at xs) l)
 
   remainders : sum_below (length xs) (remainder_at xs) ≡ missing_in xs * total xs
   remainders =
@@ -69,22 +69,22 @@ module _ (xs : List ℕ) (some : 0 < total xs) where
       omega arith
 
   -- the remainders are below the total
-  remainders-few : (n : ℕ) → sum_below n (remainder_at xs) ≤ count_below n (λ i. ltb 0 (remainder_at xs i)) * total xs
+  remainders_few : (n : ℕ) → sum_below n (remainder_at xs) ≤ count_below n (λ i. ltb 0 (remainder_at xs i)) * total xs
   unfolding sum_below count_below
-  remainders-few zero = omega arith
-  remainders-few (suc n) =
-      let h = remainders-few n in
+  remainders_few zero = omega arith
+  remainders_few (suc n) =
+      let h = remainders_few n in
       let k = count_below n (λ i. ltb 0 (remainder_at xs i)) in
       ⊎_elim
-      (λ (p : 0 < remainder_at xs n). rw (lt-ltb 0 (remainder_at xs n) p) (omega (arith, add-mul 1 (count_below n (λ i. ltb 0 (remainder_at xs i))) (total xs), remainder-below n)))
+      (λ (p : 0 < remainder_at xs n). rw (lt-ltb 0 (remainder_at xs n) p) (omega (arith, add-mul 1 (count_below n (λ i. ltb 0 (remainder_at xs i))) (total xs), remainder_below n)))
       (λ (p : remainder_at xs n ≤ 0). rw (le-ltb 0 (remainder_at xs n) p) (omega (arith, add-mul 0 (count_below n (λ i. ltb 0 (remainder_at xs i))) (total xs))))
       (below_or_not 0 (remainder_at xs n))
 
   -- "The thousandths missing" are at most as many as there are remainders above 0
-  pub missing-few : missing_in xs ≤ count_below (length xs) (λ i. ltb 0 (remainder_at xs i))
-  missing-few =
+  pub missing_few : missing_in xs ≤ count_below (length xs) (λ i. ltb 0 (remainder_at xs i))
+  missing_few =
       le_of_mul-le-mul_right {m = missing_in xs} {n = count_below (length xs) (λ i. ltb 0 (remainder_at xs i))} {k = total xs}
-      (let a = remainders in let b = remainders-few (length xs) in omega arith) some
+      (let a = remainders in let b = remainders_few (length xs) in omega arith) some
 
-  pub missing-below : missing_in xs ≤ length xs
-  missing-below = let a = missing-few in omega (arith, count_below_le (length xs) (λ i. ltb 0 (remainder_at xs i)))
+  pub missing_below : missing_in xs ≤ length xs
+  missing_below = let a = missing_few in omega (arith, count_below_le (length xs) (λ i. ltb 0 (remainder_at xs i)))

@@ -2,7 +2,7 @@
 use mathlib.Core.Path.{◌≡◌, refl, sym, ap, subst, ◌∙◌}
 use mathlib.Core.Bool.{Bool, true, false, cond}
 use mathlib.Core.List.{List, [], ◌∷◌, ◌++◌}
-use Prim.Native.Nat.{ℕ, zero, suc, ◌+◌, ◌^◌, ◌<◌, ◌≤◌}
+use Prim.Native.Nat.{ℕ, zero, suc, ◌^◌, ◌<◌, ◌≤◌}
 use native.Mathlib.Omega.{arith}
 use borrow.Author.Tests.{le-leb}
 use lib.Dec.{ltb}
@@ -34,7 +34,7 @@ use Rattle.record.specs.declared.Saved.TheVariants.{Size}
 use Rattle.panel_lines.specs.Shares.{share_among}
 use Rattle.panel_lines.specs.Panel.{digits, leaf_lines, lines_of, counts_in, panel_of, out_after}
 use Rattle.panel_lines.specs.Parts.{lines_after, counts_shown, counts_after}
-use Rattle.panel_lines.proofs.Saved.{saved-shown, saved_after}
+use Rattle.panel_lines.proofs.Saved.{saved_shown, saved_after}
 
 -- the bytes of "leaves 1 splits 0" and "0 1000", each with its line's end
 pub example : List ℕ
@@ -47,8 +47,8 @@ module _ (s : Settings) (f : SettingsFits s) where
   abbrev tree : RuleTree
   tree = fresh_tree s.ends s.default_action
 
-  tree-fits : TreeFits tree
-  tree-fits = record {
+  tree_fits : TreeFits tree
+  tree_fits = record {
     full = fresh_length s.ends s.default_action;
     ends = f.ends;
     actions = at;
@@ -61,10 +61,10 @@ module _ (s : Settings) (f : SettingsFits s) where
           ∙ get_or-replicate 513 (suc i) blank_node no_node l in
           subst (λ (x : Node). ActionFits (action_in x)) (sym e) plain_fits
 
-  stand-fits : (phase stage round : ℕ) → stage < 2 ^ 32 → round < 2 ^ 32 → TrainerFits (stand s tree phase stage round)
-  stand-fits phase stage round a b = record {
+  stand_fits : (phase stage round : ℕ) → stage < 2 ^ 32 → round < 2 ^ 32 → TrainerFits (stand s tree phase stage round)
+  stand_fits phase stage round a b = record {
     settings = f;
-    tree = tree-fits;
+    tree = tree_fits;
     stage = a;
     round = b;
     leaf = omega arith;
@@ -79,13 +79,13 @@ module _ (s : Settings) (f : SettingsFits s) where
   started_fits = by (ltb 0 s.optimization_rounds_per_split) (ltb s.rule_splits 1)
     where
       by : (b d : Bool) → TrainerFits (cond b (stand s tree 3 0 0) (cond d (stand s tree 6 1 0) (stand s tree 1 1 0)))
-      by true d = stand-fits 3 0 0 (omega arith) (omega arith)
-      by false true = stand-fits 6 1 0 (omega arith) (omega arith)
-      by false false = stand-fits 1 1 0 (omega arith) (omega arith)
+      by true d = stand_fits 3 0 0 (omega arith) (omega arith)
+      by false true = stand_fits 6 1 0 (omega arith) (omega arith)
+      by false false = stand_fits 1 1 0 (omega arith) (omega arith)
 
-  started-tree : (started s).tree ≡ tree
+  started_tree : (started s).tree ≡ tree
   unfolding begin_round begin_stage
-  started-tree = by (ltb 0 s.optimization_rounds_per_split) (ltb s.rule_splits 1)
+  started_tree = by (ltb 0 s.optimization_rounds_per_split) (ltb s.rule_splits 1)
     where
       by : (b d : Bool) → (cond b (stand s tree 3 0 0) (cond d (stand s tree 6 1 0) (stand s tree 1 1 0))).tree ≡ tree
       by true d = refl
@@ -120,8 +120,8 @@ pub fresh_panel : (s : Settings) → settings_hold s ≡ true → SettingsFits s
 fresh_panel s h f out l =
     let fits = started_fits s f in
     let held = (start_held s h).accepted in (
-      saved-shown (started s) fits held (bytes_of 8 5) out
-          ∙ ap (λ (t : RuleTree). counts_shown t (bytes_of 8 5) out) (started-tree s f) ∙ fresh_shown s.ends s.default_action out l,
+      saved_shown (started s) fits held (bytes_of 8 5) out
+          ∙ ap (λ (t : RuleTree). counts_shown t (bytes_of 8 5) out) (started_tree s f) ∙ fresh_shown s.ends s.default_action out l,
       saved_after (started s) fits held (bytes_of 8 5) out (Size 25)
-          ∙ ap (λ (t : RuleTree). counts_after t (bytes_of 8 5) out (Size 25)) (started-tree s f) ∙ fresh_after s.ends s.default_action out,
+          ∙ ap (λ (t : RuleTree). counts_after t (bytes_of 8 5) out (Size 25)) (started_tree s f) ∙ fresh_after s.ends s.default_action out,
     )

@@ -46,8 +46,8 @@ leaf_written i share {l} {l1} {l2} {at} {space} {end} p q =
 
 -- ---- a node's line, if it is a leaf
 module _ (x : Node) (i share : ℕ) where
-  pub node-leaf : x.children ≡ 0 → leaf_line i share ≡ node_line x i share
-  node-leaf e = rw (eq-eqb x.children 0 e)
+  pub node_leaf : x.children ≡ 0 → leaf_line i share ≡ node_line x i share
+  node_leaf e = rw (eq-eqb x.children 0 e)
 
   pub node_skipped : (l : List ℕ) (at : ℕ) → (x.children ≡ 0 → ⊥) → Wrote l at l at (node_line x i share)
   node_skipped l at n = rw (ne_eqb x.children 0 n) (nothing l at)
@@ -57,36 +57,36 @@ module _ (nodes : List Node) (share : ℕ → ℕ) where
   abbrev line : ℕ → List ℕ
   line i = node_line (node_at_of nodes i) i (share i)
 
-  lines-suc : (i : ℕ) → leaf_lines nodes share (suc i) ≡ leaf_lines nodes share i ++ line i
+  lines_suc : (i : ℕ) → leaf_lines nodes share (suc i) ≡ leaf_lines nodes share i ++ line i
   unfolding leaf_lines
-  lines-suc i = refl
+  lines_suc i = refl
 
   lines_more : (i : ℕ) → leaf_lines nodes share i ++ line i ≡ leaf_lines nodes share (i + 1)
-  lines_more i = sym (ap (leaf_lines nodes share) (add-one i) ∙ lines-suc i)
+  lines_more i = sym (ap (leaf_lines nodes share) (add-one i) ∙ lines_suc i)
 
-  pub lines-count : (i : ℕ) → length (leaf_lines nodes share (suc i)) ≡ length (leaf_lines nodes share i) + length (line i)
-  lines-count i = ap length (lines-suc i) ∙ length-append (leaf_lines nodes share i) (line i)
+  pub lines_count : (i : ℕ) → length (leaf_lines nodes share (suc i)) ≡ length (leaf_lines nodes share i) + length (line i)
+  lines_count i = ap length (lines_suc i) ∙ length-append (leaf_lines nodes share i) (line i)
 
-  pub lines-grow : (i n : ℕ) → i < n → length (leaf_lines nodes share i) + length (line i) ≤ length (leaf_lines nodes share n)
-  lines-grow i zero l = absurd (omega arith)
-  lines-grow i (suc n) l =
-      let e = lines-count n in
+  pub lines_grow : (i n : ℕ) → i < n → length (leaf_lines nodes share i) + length (line i) ≤ length (leaf_lines nodes share n)
+  lines_grow i zero l = absurd (omega arith)
+  lines_grow i (suc n) l =
+      let e = lines_count n in
       ⊎_elim (λ (p : i ≡ n). subst (λ (k : ℕ). length (leaf_lines nodes share k) + length (line k) ≤ length (leaf_lines nodes share (suc n))) (sym p) (omega arith))
-      (λ (q : i < n). let h = lines-grow i n q in omega arith)
+      (λ (q : i < n). let h = lines_grow i n q in omega arith)
       (eq-or-lt_of_le (let q : i ≤ n = omega arith in q))
 
-  pub line-room : (i at n : ℕ) {k r : ℕ} → i < n → k ≡ at + length (leaf_lines nodes share i) → at + length (leaf_lines nodes share n) ≤ r → k + length (line i) ≤ r
-  line-room i at n l p h = let g = lines-grow i n l in omega arith
+  pub line_room : (i at n : ℕ) {k r : ℕ} → i < n → k ≡ at + length (leaf_lines nodes share i) → at + length (leaf_lines nodes share n) ≤ r → k + length (line i) ≤ r
+  line_room i at n l p h = let g = lines_grow i n l in omega arith
 
   pub lines_none : (l : List ℕ) (at : ℕ) → Wrote l at l at (leaf_lines nodes share 0)
   unfolding leaf_lines
   lines_none l at = nothing l at
 
-  pub lines-turn : (i : ℕ) {l m r : List ℕ} {at k j : ℕ} → Wrote l at m k (leaf_lines nodes share i) → Wrote m k r j (line i) → Wrote l at r j (leaf_lines nodes share (i + 1))
-  lines-turn i p q = named (lines_more i) (then p q)
+  pub lines_turn : (i : ℕ) {l m r : List ℕ} {at k j : ℕ} → Wrote l at m k (leaf_lines nodes share i) → Wrote m k r j (line i) → Wrote l at r j (leaf_lines nodes share (i + 1))
+  lines_turn i p q = named (lines_more i) (then p q)
 
-  pub lines-done : (i n : ℕ) {l m : List ℕ} {at k : ℕ} → i ≡ n → Wrote l at m k (leaf_lines nodes share i) → Wrote l at m k (leaf_lines nodes share n)
-  lines-done i n e p = named (ap (leaf_lines nodes share) e) p
+  pub lines_done : (i n : ℕ) {l m : List ℕ} {at k : ℕ} → i ≡ n → Wrote l at m k (leaf_lines nodes share i) → Wrote l at m k (leaf_lines nodes share n)
+  lines_done i n e p = named (ap (leaf_lines nodes share) e) p
 
 pub lines_same : (nodes : List Node) (f g : ℕ → ℕ) (n : ℕ) → ((i : ℕ) → i < n → f i ≡ g i) → leaf_lines nodes f n ≡ leaf_lines nodes g n
 unfolding leaf_lines

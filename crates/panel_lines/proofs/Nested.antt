@@ -12,7 +12,6 @@ use Rattle.rule_tree.specs.declared.RuleTree.{RuleTree}
 use Rattle.rule_tree.specs.Nodes.{node_count}
 use Rattle.rule_tree.specs.Counts.{counts_hold}
 use Rattle.rule_tree.proofs.Lists.{and_left, and_right, and_both}
-use Rattle.trainer.specs.declared.Trainer.{Trainer}
 use Rattle.trainer.specs.declared.Answered.{Answered}
 use Rattle.trainer.specs.Phases.{refuse, taken}
 use Rattle.trainer.specs.Calls.{blank_trainer}
@@ -29,18 +28,18 @@ module _ (input : List ℕ) (h : start_holds input ≡ true) where
   n : ℕ
   n = number_at input 0 4
 
-  start-rest : leb n 16384 && leb n (length input - 4) ≡ true
+  start_rest : leb n 16384 && leb n (length input - 4) ≡ true
   unfolding start_holds n
-  start-rest = and_right (leb 4 (length input)) (leb n 16384 && leb n (length input - 4)) h
+  start_rest = and_right (leb 4 (length input)) (leb n 16384 && leb n (length input - 4)) h
 
   start_few : n ≤ 16384
-  start_few = leb-true n 16384 (and_left (leb n 16384) (leb n (length input - 4)) start-rest)
+  start_few = leb-true n 16384 (and_left (leb n 16384) (leb n (length input - 4)) start_rest)
 
   pub start_fits : 4 + number_at input 0 4 ≤ length input
   unfolding start_holds n
   start_fits =
       let a = leb-true 4 (length input) (and_left (leb 4 (length input)) (leb n 16384 && leb n (length input - 4)) h) in
-      let b = leb-true n (length input - 4) (and_right (leb n 16384) (leb n (length input - 4)) start-rest) in
+      let b = leb-true n (length input - 4) (and_right (leb n 16384) (leb n (length input - 4)) start_rest) in
       omega arith
 
   pub part_held : length_holds (record_part input) ≡ true
@@ -63,11 +62,11 @@ long_start input l = rw (le-leb 4 (length input) (omega arith)) (by (leb (number
     by false e = refl
 
 module _ (m : ℕ) (l : 16388 ≤ m) (input : List ℕ) where
-  pub first-number : number_at (take m input) 0 4 ≡ number_at input 0 4
-  first-number = ap (value_from 0) (take-take 4 m input (omega arith))
+  pub first_number : number_at (take m input) 0 4 ≡ number_at input 0 4
+  first_number = ap (value_from 0) (take-take 4 m input (omega arith))
 
-  pub first-record : number_at input 0 4 ≤ 16384 → record_part (take m input) ≡ record_part input
-  first-record h = ap (λ (k : ℕ). take (4 + k) (take m input)) first-number ∙ take-take (4 + number_at input 0 4) m input (omega arith)
+  pub first_record : number_at input 0 4 ≤ 16384 → record_part (take m input) ≡ record_part input
+  first_record h = ap (λ (k : ℕ). take (4 + k) (take m input)) first_number ∙ take-take (4 + number_at input 0 4) m input (omega arith)
 
 -- ---- the loader's answer
 abbrev given : List ℕ → Bool → Bool → Bool → Answered

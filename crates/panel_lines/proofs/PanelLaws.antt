@@ -24,11 +24,11 @@ use Rattle.record.specs.declared.Saved.{Saved}
 use Rattle.record.specs.declared.Saved.TheVariants.{Size, Refused}
 use Rattle.panel_lines.specs.Panel.{lines_of, record_part, counts_part, counts_in, tree_in, counts_of, text_of, start_holds, panel_of, out_after}
 use Rattle.panel_lines.specs.Parts.{fitted, counts_shown, record_shown}
-use Rattle.record.proofs.Size.{leaves-count}
-use Rattle.record.proofs.Loading.{accepted-grown, load_again}
+use Rattle.record.proofs.Size.{leaves_count}
+use Rattle.record.proofs.Loading.{accepted_grown, load_again}
 use Rattle.panel_lines.proofs.Room.{lines_fit}
 use Rattle.panel_lines.proofs.Ways.{load_splits}
-use Rattle.panel_lines.proofs.Nested.{long_start, first-number, first-record, loaded, panel_nested}
+use Rattle.panel_lines.proofs.Nested.{long_start, first_number, first_record, loaded, panel_nested}
 
 -- ---- "leaves L": as many as are listed
 pub leaves_told : (bytes : List ℕ) → (load_of bytes).refused ≡ 0
@@ -36,7 +36,7 @@ pub leaves_told : (bytes : List ℕ) → (load_of bytes).refused ≡ 0
 leaves_told bytes h =
     let t = (load_of bytes).trainer in
     let a = (load_again bytes t (loaded bytes h ∙ ap (λ (r : Answered). taken r.trainer) (sym (loaded bytes h)))).accepted in
-    leaves-count t.tree (accepted-grown t a) (ap (λ (r : Answered). length r.trainer.tree.nodes) (loaded bytes h) ∙ length_tabulate 513 _)
+    leaves_count t.tree (accepted_grown t a) (ap (λ (r : Answered). length r.trainer.tree.nodes) (loaded bytes h) ∙ length_tabulate 513 _)
 
 -- ---- an input of more bytes than any that is taken
 -- what is answered to it hangs on the record alone
@@ -51,29 +51,29 @@ module _ (input out : List ℕ) (l : 20493 ≤ length input) where
   unfolding n
   started = long_start input (omega arith)
 
-  long-counts : (t : RuleTree) → n ≤ 16384 → t.splits ≤ 64 → counts_shown t (counts_part input) out ≡ Refused 4
+  long_counts : (t : RuleTree) → n ≤ 16384 → t.splits ≤ 64 → counts_shown t (counts_part input) out ≡ Refused 4
   unfolding counts_shown n
-  long-counts t m f =
+  long_counts t m f =
       rw (ne_eqb (length (counts_part input)) (8 * node_count t.splits) (λ e. absurd (omega (arith, length-drop (4 + n) input, e))))
 
-  long-record : n ≤ 16384 → (a : Answered) → a ≡ load_of (record_part input)
+  long_record : n ≤ 16384 → (a : Answered) → a ≡ load_of (record_part input)
       → record_shown a (counts_part input) out ≡ cond (eqb a.refused 0) (Refused 4) (Refused a.refused)
   unfolding record_shown
-  long-record m a e = by (eqb a.refused 0) refl
+  long_record m a e = by (eqb a.refused 0) refl
     where
       by : (b : Bool) → eqb a.refused 0 ≡ b
           → cond b (counts_shown a.trainer.tree (counts_part input) out) (Refused a.refused) ≡ cond b (Refused 4) (Refused a.refused)
-      by true z = long-counts a.trainer.tree m (load_splits (record_part input) a e (eqb-true a.refused 0 z))
+      by true z = long_counts a.trainer.tree m (load_splits (record_part input) a e (eqb-true a.refused 0 z))
       by false z = refl
 
-  long-panel : panel_of input out ≡ long_answer n (load_of (record_part input))
+  long_panel : panel_of input out ≡ long_answer n (load_of (record_part input))
   unfolding long_answer
-  long-panel = panel_nested input out ∙ rw started (by (leb n 16384) refl)
+  long_panel = panel_nested input out ∙ rw started (by (leb n 16384) refl)
     where
       by : (b : Bool) → leb n 16384 ≡ b
           → cond b (record_shown (load_of (record_part input)) (counts_part input) out) (Refused 6)
           ≡ cond b (cond (eqb (load_of (record_part input)).refused 0) (Refused 4) (Refused (load_of (record_part input)).refused)) (Refused 6)
-      by true e = long-record (leb-true n 16384 e) (load_of (record_part input)) refl
+      by true e = long_record (leb-true n 16384 e) (load_of (record_part input)) refl
       by false e = refl
 
 long_after : (input out : List ℕ) (n : ℕ) (a : Answered) → out_after input out (long_answer n a) ≡ out
@@ -91,35 +91,35 @@ module _ (input out : List ℕ) where
   first = take 20493 input
 
   module _ (l : 20493 ≤ length input) where
-    first-length : 20493 ≤ length first
+    first_length : 20493 ≤ length first
     unfolding first
-    first-length = omega (arith, length-take-le 20493 input l)
+    first_length = omega (arith, length-take-le 20493 input l)
 
     same_answer : long_answer (number_at first 0 4) (load_of (record_part first)) ≡ long_answer (number_at input 0 4) (load_of (record_part input))
     unfolding long_answer first
-    same_answer = ap (λ (k : ℕ). long_answer k (load_of (record_part first))) (first-number 20493 (omega arith) input) ∙ by (leb (number_at input 0 4) 16384) refl
+    same_answer = ap (λ (k : ℕ). long_answer k (load_of (record_part first))) (first_number 20493 (omega arith) input) ∙ by (leb (number_at input 0 4) 16384) refl
       where
         shown : Answered → Saved
         shown a = cond (eqb a.refused 0) (Refused 4) (Refused a.refused)
 
         by : (b : Bool) → leb (number_at input 0 4) 16384 ≡ b
             → cond b (shown (load_of (record_part first))) (Refused 6) ≡ cond b (shown (load_of (record_part input))) (Refused 6)
-        by true e = ap (λ (r : List ℕ). shown (load_of r)) (first-record 20493 (omega arith) input (leb-true (number_at input 0 4) 16384 e))
+        by true e = ap (λ (r : List ℕ). shown (load_of r)) (first_record 20493 (omega arith) input (leb-true (number_at input 0 4) 16384 e))
         by false e = refl
 
     long_same : panel_of first out ≡ panel_of input out
     unfolding n
-    long_same = long-panel first out first-length ∙ same_answer ∙ sym (long-panel input out l)
+    long_same = long_panel first out first_length ∙ same_answer ∙ sym (long_panel input out l)
 
     long_kept : out_after first out (panel_of first out) ≡ out_after input out (panel_of input out)
     long_kept =
-        ap (out_after first out) (long-panel first out first-length) ∙ long_after first out _ _
-        ∙ sym (ap (out_after input out) (long-panel input out l) ∙ long_after input out _ _)
+        ap (out_after first out) (long_panel first out first_length) ∙ long_after first out _ _
+        ∙ sym (ap (out_after input out) (long_panel input out l) ∙ long_after input out _ _)
 
-  pub buffer-same : (panel_of (take 20493 input) out ≡ panel_of input out)
+  pub buffer_same : (panel_of (take 20493 input) out ≡ panel_of input out)
       × (out_after (take 20493 input) out (panel_of (take 20493 input) out) ≡ out_after input out (panel_of input out))
   unfolding first
-  buffer-same = by (leb 20493 (length input)) refl
+  buffer_same = by (leb 20493 (length input)) refl
     where
       by : (b : Bool) → leb 20493 (length input) ≡ b → (panel_of (take 20493 input) out ≡ panel_of input out)
           × (out_after (take 20493 input) out (panel_of (take 20493 input) out) ≡ out_after input out (panel_of input out))
@@ -150,9 +150,9 @@ fitted_room : (text out : List ℕ) → length text ≤ length out → fitted te
 fitted_room text out l = rw (le-leb (length text) (length out) l)
 
 module _ (out : List ℕ) (room : 8192 ≤ length out) where
-  counts-never : (t : RuleTree) (bytes : List ℕ) → t.splits ≤ 64 → counts_shown t bytes out ≡ Refused 9 → ⊥
+  counts_never : (t : RuleTree) (bytes : List ℕ) → t.splits ≤ 64 → counts_shown t bytes out ≡ Refused 9 → ⊥
   unfolding counts_shown
-  counts-never t bytes l e = by (eqb (length bytes) (8 * node_count t.splits)) (counts_hold t (counts_in bytes (node_count t.splits))) e
+  counts_never t bytes l e = by (eqb (length bytes) (8 * node_count t.splits)) (counts_hold t (counts_in bytes (node_count t.splits))) e
     where
       xs : List ℕ
       xs = counts_in bytes (node_count t.splits)
@@ -162,20 +162,20 @@ module _ (out : List ℕ) (room : 8192 ≤ length out) where
       by true false e = let q = refused_number 4 9 e in omega arith
       by false d e = let q = refused_number 4 9 e in omega arith
 
-  record-never : (bytes rest : List ℕ) → record_shown (load_of bytes) rest out ≡ Refused 9 → ⊥
+  record_never : (bytes rest : List ℕ) → record_shown (load_of bytes) rest out ≡ Refused 9 → ⊥
   unfolding record_shown
-  record-never bytes rest e = by (eqb (load_of bytes).refused 0) refl e
+  record_never bytes rest e = by (eqb (load_of bytes).refused 0) refl e
     where
       by : (b : Bool) → eqb (load_of bytes).refused 0 ≡ b
           → cond b (counts_shown (load_of bytes).trainer.tree rest out) (Refused (load_of bytes).refused) ≡ Refused 9 → ⊥
-      by true z e = counts-never (load_of bytes).trainer.tree rest (load_splits bytes (load_of bytes) refl (eqb-true (load_of bytes).refused 0 z)) e
+      by true z e = counts_never (load_of bytes).trainer.tree rest (load_splits bytes (load_of bytes) refl (eqb-true (load_of bytes).refused 0 z)) e
       by false z e = load_number bytes (refused_number (load_of bytes).refused 9 e)
 
   pub never_short : (input : List ℕ) → panel_of input out ≡ Refused 9 → ⊥
   never_short input e = by (start_holds input) (sym (panel_nested input out) ∙ e)
     where
       by : (b : Bool) → cond b (record_shown (load_of (record_part input)) (counts_part input) out) (Refused 6) ≡ Refused 9 → ⊥
-      by true e = record-never (record_part input) (counts_part input) e
+      by true e = record_never (record_part input) (counts_part input) e
       by false e = let q = refused_number 6 9 e in omega arith
 
 -- ---- a size is that of bytes in the lent buffer

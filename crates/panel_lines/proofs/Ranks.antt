@@ -23,45 +23,45 @@ module _ (remainder : ℕ → ℕ) where
   Before : ℕ → ℕ → Type 0
   Before i j = (remainder i < remainder j) ⊎ ((remainder j ≡ remainder i) × (j < i))
 
-  ahead-cases : (i j : ℕ) → ahead remainder i j ≡ true → Before i j
+  ahead_cases : (i j : ℕ) → ahead remainder i j ≡ true → Before i j
   unfolding ahead Before
-  ahead-cases i j h =
+  ahead_cases i j h =
       ⊎_elim (λ (p : ltb (remainder i) (remainder j) ≡ true). inl (ltb-true (remainder i) (remainder j) p))
       (λ (p : eqb (remainder j) (remainder i) && ltb j i ≡ true).
       inr (eqb-true (remainder j) (remainder i) (and_left (eqb (remainder j) (remainder i)) (ltb j i) p), ltb-true j i (and_right (eqb (remainder j) (remainder i)) (ltb j i) p)))
       (or_cases (ltb (remainder i) (remainder j)) (eqb (remainder j) (remainder i) && ltb j i) h)
 
-  pub ahead-larger : (i j : ℕ) → remainder i < remainder j → ahead remainder i j ≡ true
+  pub ahead_larger : (i j : ℕ) → remainder i < remainder j → ahead remainder i j ≡ true
   unfolding ahead
-  ahead-larger i j h = rw (lt-ltb (remainder i) (remainder j) h)
+  ahead_larger i j h = rw (lt-ltb (remainder i) (remainder j) h)
 
   pub ahead_lower : (i j : ℕ) → remainder j ≡ remainder i → j < i → ahead remainder i j ≡ true
   unfolding ahead
   ahead_lower i j e h = rw (eq-eqb (remainder j) (remainder i) e, lt-ltb j i h, or-true)
 
-  pub ahead-self : (i : ℕ) → ahead remainder i i ≡ false
+  pub ahead_self : (i : ℕ) → ahead remainder i i ≡ false
   unfolding ahead
-  ahead-self i = rw (le-ltb (remainder i) (remainder i) (omega arith), eq-eqb (remainder i) (remainder i) refl, le-ltb i i (omega arith))
+  ahead_self i = rw (le-ltb (remainder i) (remainder i) (omega arith), eq-eqb (remainder i) (remainder i) refl, le-ltb i i (omega arith))
 
-  pub ahead-smaller : (i j : ℕ) → remainder j < remainder i → ahead remainder i j ≡ false
+  pub ahead_smaller : (i j : ℕ) → remainder j < remainder i → ahead remainder i j ≡ false
   unfolding ahead
-  ahead-smaller i j h = rw (le-ltb (remainder i) (remainder j) (omega arith), ne_eqb (remainder j) (remainder i) (λ e. absurd (omega arith)))
+  ahead_smaller i j h = rw (le-ltb (remainder i) (remainder j) (omega arith), ne_eqb (remainder j) (remainder i) (λ e. absurd (omega arith)))
 
-  ahead-through : (i j k : ℕ) → ahead remainder i j ≡ true → ahead remainder j k ≡ true → ahead remainder i k ≡ true
+  ahead_through : (i j k : ℕ) → ahead remainder i j ≡ true → ahead remainder j k ≡ true → ahead remainder i k ≡ true
   unfolding Before
-  ahead-through i j k a b =
+  ahead_through i j k a b =
       ⊎_elim
       (λ (p : remainder i < remainder j).
-      ⊎_elim (λ (q : remainder j < remainder k). ahead-larger i k (omega arith)) (λ (q : (remainder k ≡ remainder j) × (k < j)). ahead-larger i k (omega arith)) (ahead-cases j k b))
+      ⊎_elim (λ (q : remainder j < remainder k). ahead_larger i k (omega arith)) (λ (q : (remainder k ≡ remainder j) × (k < j)). ahead_larger i k (omega arith)) (ahead_cases j k b))
       (λ (p : (remainder j ≡ remainder i) × (j < i)).
-      ⊎_elim (λ (q : remainder j < remainder k). ahead-larger i k (omega arith)) (λ (q : (remainder k ≡ remainder j) × (k < j)). ahead_lower i k (omega arith) (omega arith)) (ahead-cases j k b))
-      (ahead-cases i j a)
+      ⊎_elim (λ (q : remainder j < remainder k). ahead_larger i k (omega arith)) (λ (q : (remainder k ≡ remainder j) × (k < j)). ahead_lower i k (omega arith) (omega arith)) (ahead_cases j k b))
+      (ahead_cases i j a)
 
-  ahead-either : (i j : ℕ) → i ≢ j → (ahead remainder i j ≡ true) ⊎ (ahead remainder j i ≡ true)
-  ahead-either i j d =
-      ⊎_elim (λ (p : remainder i < remainder j). inl (ahead-larger i j p))
+  ahead_either : (i j : ℕ) → i ≢ j → (ahead remainder i j ≡ true) ⊎ (ahead remainder j i ≡ true)
+  ahead_either i j d =
+      ⊎_elim (λ (p : remainder i < remainder j). inl (ahead_larger i j p))
       (λ (p : remainder j ≤ remainder i).
-      ⊎_elim (λ (q : remainder j < remainder i). inr (ahead-larger j i q))
+      ⊎_elim (λ (q : remainder j < remainder i). inr (ahead_larger j i q))
       (λ (q : remainder i ≤ remainder j).
       ⊎_elim (λ (r : j < i). inl (ahead_lower i j (omega arith) r))
       (λ (r : i ≤ j). inr (ahead_lower j i (omega arith) (omega arith)))
@@ -73,27 +73,27 @@ module _ (remainder : ℕ → ℕ) where
     abbrev rank : ℕ → ℕ
     rank i = count_below n (λ j. ahead remainder i j)
 
-    rank-inside : (i : ℕ) → i < n → rank i < n
+    rank_inside : (i : ℕ) → i < n → rank i < n
     unfolding always
-    rank-inside i l =
-        let a = count_lt n (λ j. ahead remainder i j) always i (λ j m h. refl) l (ahead-self i) refl in
+    rank_inside i l =
+        let a = count_lt n (λ j. ahead remainder i j) always i (λ j m h. refl) l (ahead_self i) refl in
         let b = count_all n always (λ j m. refl) in
         omega arith
 
     -- who comes before i has a lower rank
-    pub rank-before : (i j : ℕ) → j < n → ahead remainder i j ≡ true → rank j < rank i
-    rank-before i j l h =
-        count_lt n (λ k. ahead remainder j k) (λ k. ahead remainder i k) j (λ k m p. ahead-through i j k h p) l (ahead-self j) h
+    pub rank_before : (i j : ℕ) → j < n → ahead remainder i j ≡ true → rank j < rank i
+    rank_before i j l h =
+        count_lt n (λ k. ahead remainder j k) (λ k. ahead remainder i k) j (λ k m p. ahead_through i j k h p) l (ahead_self j) h
 
-    rank-apart : (i j : ℕ) → i < n → j < n → rank i ≡ rank j → i ≡ j
-    rank-apart i j l m e =
+    rank_apart : (i j : ℕ) → i < n → j < n → rank i ≡ rank j → i ≡ j
+    rank_apart i j l m e =
         ⊎_elim (λ (p : i ≡ j). p)
         (λ (p : i ≢ j).
-        ⊎_elim (λ (q : ahead remainder i j ≡ true). absurd (let r = rank-before i j m q in omega arith))
-        (λ (q : ahead remainder j i ≡ true). absurd (let r = rank-before j i l q in omega arith))
-        (ahead-either i j p))
+        ⊎_elim (λ (q : ahead remainder i j ≡ true). absurd (let r = rank_before i j m q in omega arith))
+        (λ (q : ahead remainder j i ≡ true). absurd (let r = rank_before j i l q in omega arith))
+        (ahead_either i j p))
         (same_or_not i j)
 
     -- as many have a rank below m as m says
-    pub ranks-below : (m : ℕ) → m ≤ n → count_below n (λ i. ltb (rank i) m) ≡ m
-    ranks-below = exactly n rank rank-inside rank-apart
+    pub ranks_below : (m : ℕ) → m ≤ n → count_below n (λ i. ltb (rank i) m) ≡ m
+    ranks_below = exactly n rank rank_inside rank_apart

@@ -14,10 +14,10 @@ unfolding start_holds
 start_few input l = rw (lt-leb 4 (length input) l)
 
 module _ (input : List ℕ) (n : ℕ) (l : 4 ≤ length input) (e : n ≡ number_at input 0 4) where
-  pub start-over : 16384 < n → false ≡ start_holds input
+  pub start_over : 16384 < n → false ≡ start_holds input
   unfolding start_holds
-  start-over h = rw (le-leb 4 (length input) l, ← e, lt-leb n 16384 h)
+  start_over h = rw (le-leb 4 (length input) l, ← e, lt-leb n 16384 h)
 
-  pub start-told : n ≤ 16384 → leb n (length input - 4) ≡ start_holds input
+  pub start_told : n ≤ 16384 → leb n (length input - 4) ≡ start_holds input
   unfolding start_holds
-  start-told h = rw (le-leb 4 (length input) l, ← e, le-leb n 16384 h)
+  start_told h = rw (le-leb 4 (length input) l, ← e, le-leb n 16384 h)

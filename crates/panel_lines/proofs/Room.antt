@@ -12,7 +12,7 @@ use Rattle.panel_lines.specs.Panel.{share_of, leaf_line, leaf_lines, lines_of}
 use Rattle.panel_lines.specs.Parts.{node_line}
 use Rattle.panel_lines.proofs.Decimal.{decimal_few}
 use Rattle.panel_lines.proofs.Shares.{share_few}
-use Rattle.panel_lines.proofs.Lines.{leaf_count, first_count, lines-count, lines_length}
+use Rattle.panel_lines.proofs.Lines.{leaf_count, first_count, lines_count, lines_length}
 
 line_few : (x : Node) (i share : ℕ) → i < 1000 → share ≤ 1001 → length (node_line x i share) ≤ 9
 line_few x i share l h = by (eqb x.children 0)
@@ -30,7 +30,7 @@ lines_few nodes share h zero l = omega arith
 lines_few nodes share h (suc n) l =
     let f = lines_few nodes share h n (omega arith) in
     let e = line_few (node_at_of nodes n) n (share n) (omega arith) (h n) in
-    omega (arith, lines-count nodes share n)
+    omega (arith, lines_count nodes share n)
 
 -- whatever the tree and the counts, the lines fit 8,192 bytes
 pub lines_fit : (t : RuleTree) (xs : List ℕ) → t.splits ≤ 64 → length (lines_of t xs) ≤ 8192

@@ -18,9 +18,9 @@ use Rattle.record.specs.Layout.{layout_of}
 use Rattle.record.specs.Write.{version, body_of, record_in, record_of}
 use Rattle.record.specs.Calls.{load_of}
 use Rattle.wire.proofs.Bytes.{bytes_count, number_stands}
-use Rattle.record.proofs.Size.{record-small}
+use Rattle.record.proofs.Size.{record_small}
 use Rattle.record.proofs.RoundTrip.{TrainerFits}
-use Rattle.record.proofs.Loading.{accepted-grown, load_saved}
+use Rattle.record.proofs.Loading.{accepted_grown, load_saved}
 use Rattle.record.specs.declared.Saved.{Saved}
 use Rattle.record.specs.declared.Saved.TheVariants.{Size, Refused}
 use Rattle.panel_lines.specs.Panel.{lines_of, record_part, counts_part, counts_in, start_holds, tree_in, panel_of, out_after}
@@ -33,7 +33,7 @@ module _ (t : Trainer) (f : TrainerFits t) (a : accepted_of t ≡ true) (more : 
   input = record_of t ++ more
 
   size : length (record_of t) ≤ 11076
-  size = record-small (layout_of version) version t (accepted-grown t a) f.tree.full
+  size = record_small (layout_of version) version t (accepted_grown t a) f.tree.full
 
   body : 4 + length (body_of t) ≡ length (record_of t)
   unfolding record_in
@@ -66,9 +66,9 @@ module _ (t : Trainer) (f : TrainerFits t) (a : accepted_of t ≡ true) (more : 
   unfolding input
   counts = drop_at (record_of t) more _ place
 
-  pub saved-shown : (out : List ℕ) → panel_of (record_of t ++ more) out ≡ counts_shown t.tree more out
+  pub saved_shown : (out : List ℕ) → panel_of (record_of t ++ more) out ≡ counts_shown t.tree more out
   unfolding record_shown input
-  saved-shown out = panel_nested (record_of t ++ more) out ∙ rw (starts, loads, counts)
+  saved_shown out = panel_nested (record_of t ++ more) out ∙ rw (starts, loads, counts)
 
   tree : tree_in input ≡ t.tree
   tree =

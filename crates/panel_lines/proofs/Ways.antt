@@ -2,7 +2,7 @@
 use mathlib.Core.Path.{◌≡◌, refl, sym, ap, ◌∙◌}
 use mathlib.Core.Bool.{true, false}
 use mathlib.Core.List.{List}
-use Prim.Native.Nat.{ℕ, ◌+◌, ◌-◌, ◌*◌, ◌<◌, ◌≤◌}
+use Prim.Native.Nat.{ℕ, ◌-◌, ◌*◌, ◌<◌, ◌≤◌}
 use native.Mathlib.Omega.{arith}
 use borrow.Author.Tests.{le-leb, lt-leb, eq-eqb, ne_eqb}
 use lib.Dec.{leb}
@@ -12,13 +12,13 @@ use Rattle.rule_tree.specs.declared.RuleTree.{RuleTree}
 use Rattle.rule_tree.specs.Nodes.{node_count}
 use Rattle.rule_tree.specs.Counts.{capped_total, counts_hold}
 use Rattle.rule_tree.specs.Grown.{grown_of}
-use Rattle.rule_tree.proofs.Links.{grown-splits}
+use Rattle.rule_tree.proofs.Links.{grown_splits}
 use Rattle.rule_tree.proofs.Counting.{counts_accepted}
 use Rattle.trainer.specs.declared.Answered.{Answered}
 use Rattle.trainer.specs.Phases.{refuse}
 use Rattle.record.specs.Calls.{load_of}
 use Rattle.record.proofs.CallWays.{stored}
-use Rattle.record.proofs.Loading.{accepted-grown, load_again}
+use Rattle.record.proofs.Loading.{accepted_grown, load_again}
 use Rattle.record.specs.declared.Saved.{Saved}
 use Rattle.record.specs.declared.Saved.TheVariants.{Size, Refused}
 use Rattle.panel_lines.specs.Panel.{lines_of, record_part, counts_part, counts_in, tree_in, start_holds, panel_of, out_after}
@@ -41,51 +41,51 @@ lines_taken t xs buf all l h e r =
     record { few = l; taken = h; sum = omega (arith, a.total_held); room = omega (arith, lines_fit t xs l) }
 
 module _ (t : RuleTree) (xs out : List ℕ) where
-  pub shown-bad : counts_hold t xs ≡ false → (Refused 4 ≡ lines_shown t xs out) × (out ≡ lines_after t xs out (lines_shown t xs out))
+  pub shown_bad : counts_hold t xs ≡ false → (Refused 4 ≡ lines_shown t xs out) × (out ≡ lines_after t xs out (lines_shown t xs out))
   unfolding lines_after
-  shown-bad h = (rw h, rw h)
+  shown_bad h = (rw h, rw h)
 
   module _ (h : counts_hold t xs ≡ true) {l m : List ℕ} {n : ℕ} (w : Wrote l 0 m n (lines_of t xs)) where
     size : n ≡ length (lines_of t xs)
     size = omega (arith, w.place)
 
-    pub shown-short : length out < n → (Refused 9 ≡ lines_shown t xs out) × (out ≡ lines_after t xs out (lines_shown t xs out))
+    pub shown_short : length out < n → (Refused 9 ≡ lines_shown t xs out) × (out ≡ lines_after t xs out (lines_shown t xs out))
     unfolding lines_after
-    shown-short s =
+    shown_short s =
         let q : leb (length (lines_of t xs)) (length out) ≡ false = lt-leb (length (lines_of t xs)) (length out) (omega (arith, size)) in
         (rw (h, q), rw (h, q))
 
     -- the bytes written are those of the lines
-    pub first-bytes : n ≤ length l → take (n - 0) (drop 0 m) ≡ lines_of t xs
-    first-bytes f =
+    pub first_bytes : n ≤ length l → take (n - 0) (drop 0 m) ≡ lines_of t xs
+    first_bytes f =
         part_first n m ∙ ap (take n) (stored l (lines_of t xs) (omega (arith, size)) w.stored)
         ∙ take_at (lines_of t xs) (drop (length (lines_of t xs)) l) n (sym size)
 
-    pub shown-taken : {r : List ℕ} → n ≤ length out → r ≡ sets out 0 (lines_of t xs)
+    pub shown_taken : {r : List ℕ} → n ≤ length out → r ≡ sets out 0 (lines_of t xs)
         → (Size n ≡ lines_shown t xs out) × (r ≡ lines_after t xs out (lines_shown t xs out))
     unfolding lines_after
-    shown-taken s p =
+    shown_taken s p =
         let q : leb (length (lines_of t xs)) (length out) ≡ true = le-leb (length (lines_of t xs)) (length out) (omega (arith, size)) in
         (rw (h, q, size), rw (h, q) (stored out (lines_of t xs) (omega (arith, size)) p))
 
 -- ---- the counts
 module _ (t : RuleTree) (bytes out : List ℕ) where
-  pub counts-few : (length bytes ≡ 8 * node_count t.splits → ⊥)
+  pub counts_few : (length bytes ≡ 8 * node_count t.splits → ⊥)
       → (Refused 4 ≡ counts_shown t bytes out) × (out ≡ counts_after t bytes out (counts_shown t bytes out))
   unfolding counts_shown lines_after
-  counts-few h = let q = ne_eqb (length bytes) (8 * node_count t.splits) h in (rw q, rw q)
+  counts_few h = let q = ne_eqb (length bytes) (8 * node_count t.splits) h in (rw q, rw q)
 
-  shown-as : length bytes ≡ 8 * node_count t.splits → lines_shown t (counts_in bytes (node_count t.splits)) out ≡ counts_shown t bytes out
+  shown_as_lem : length bytes ≡ 8 * node_count t.splits → lines_shown t (counts_in bytes (node_count t.splits)) out ≡ counts_shown t bytes out
   unfolding counts_shown
-  shown-as h = rw (eq-eqb (length bytes) (8 * node_count t.splits) h)
+  shown_as_lem h = rw (eq-eqb (length bytes) (8 * node_count t.splits) h)
 
   pub counts_whole : (xs : List ℕ) {v : Saved} {r : List ℕ} → length bytes ≡ 8 * node_count t.splits → xs ≡ counts_in bytes (node_count t.splits)
       → v ≡ lines_shown t xs out → r ≡ lines_after t xs out (lines_shown t xs out)
       → (v ≡ counts_shown t bytes out) × (r ≡ counts_after t bytes out (counts_shown t bytes out))
   counts_whole xs h e p q = (
-    p ∙ ap (λ (ys : List ℕ). lines_shown t ys out) e ∙ shown-as h,
+    p ∙ ap (λ (ys : List ℕ). lines_shown t ys out) e ∙ shown_as_lem h,
     q ∙ ap (λ (ys : List ℕ). lines_after t ys out (lines_shown t ys out)) e
-        ∙ ap (lines_after t (counts_in bytes (node_count t.splits)) out) (shown-as h),
+        ∙ ap (lines_after t (counts_in bytes (node_count t.splits)) out) (shown_as_lem h),
   )
 
 -- ---- the record
@@ -93,15 +93,15 @@ module _ (t : RuleTree) (bytes out : List ℕ) where
 pub load_grown : (bytes : List ℕ) (a : Answered) → a ≡ load_of bytes → a.refused ≡ 0 → grown_of a.trainer.tree ≡ true
 load_grown bytes a e h =
     let q = load_again bytes a.trainer (sym e ∙ ap (λ (k : ℕ). refuse k a.trainer) h) in
-    accepted-grown a.trainer q.accepted
+    accepted_grown a.trainer q.accepted
 
 pub load_splits : (bytes : List ℕ) (a : Answered) → a ≡ load_of bytes → a.refused ≡ 0 → a.trainer.tree.splits ≤ 64
-load_splits bytes a e h = grown-splits a.trainer.tree (load_grown bytes a e h)
+load_splits bytes a e h = grown_splits a.trainer.tree (load_grown bytes a e h)
 
 module _ (input out : List ℕ) where
-  pub panel-short : start_holds input ≡ false → (Refused 6 ≡ panel_of input out) × (out ≡ out_after input out (panel_of input out))
+  pub panel_short : start_holds input ≡ false → (Refused 6 ≡ panel_of input out) × (out ≡ out_after input out (panel_of input out))
   unfolding panel_of out_after
-  panel-short h = (rw h, rw h)
+  panel_short h = (rw h, rw h)
 
   after_same : (x : Saved) → counts_after (tree_in input) (counts_part input) out x ≡ out_after input out x
   unfolding out_after lines_after
@@ -109,22 +109,22 @@ module _ (input out : List ℕ) where
   after_same (Refused k) = refl
 
   module _ (h : start_holds input ≡ true) (a : Answered) (e : a ≡ load_of (record_part input)) where
-    panel-as : panel_of input out ≡ record_shown a (counts_part input) out
-    panel-as = panel_nested input out ∙ rw (h, e)
+    panel_as : panel_of input out ≡ record_shown a (counts_part input) out
+    panel_as = panel_nested input out ∙ rw (h, e)
 
-    pub panel-refused : (a.refused ≡ 0 → ⊥) → (Refused a.refused ≡ panel_of input out) × (out ≡ out_after input out (panel_of input out))
+    pub panel_refused : (a.refused ≡ 0 → ⊥) → (Refused a.refused ≡ panel_of input out) × (out ≡ out_after input out (panel_of input out))
     unfolding record_shown out_after
-    panel-refused n =
+    panel_refused n =
         let q = ne_eqb a.refused 0 n in
-        let p : panel_of input out ≡ Refused a.refused = panel-as ∙ rw q in
+        let p : panel_of input out ≡ Refused a.refused = panel_as ∙ rw q in
         (sym p, rw p)
 
-    pub panel-shown : (bytes : List ℕ) {v : Saved} {r : List ℕ} → bytes ≡ counts_part input → a.refused ≡ 0 → v ≡ counts_shown a.trainer.tree bytes out
+    pub panel_shown : (bytes : List ℕ) {v : Saved} {r : List ℕ} → bytes ≡ counts_part input → a.refused ≡ 0 → v ≡ counts_shown a.trainer.tree bytes out
         → r ≡ counts_after a.trainer.tree bytes out (counts_shown a.trainer.tree bytes out)
         → (v ≡ panel_of input out) × (r ≡ out_after input out (panel_of input out))
     unfolding record_shown
-    panel-shown bytes f z p q =
-        let s : counts_shown a.trainer.tree (counts_part input) out ≡ panel_of input out = sym (panel-as ∙ rw (eq-eqb a.refused 0 z)) in
+    panel_shown bytes f z p q =
+        let s : counts_shown a.trainer.tree (counts_part input) out ≡ panel_of input out = sym (panel_as ∙ rw (eq-eqb a.refused 0 z)) in
         let t : a.trainer.tree ≡ tree_in input = ap (λ (b : Answered). b.trainer.tree) (e ∙ loaded (record_part input) (sym (ap (λ (b : Answered). b.refused) e) ∙ z)) in (
           p ∙ ap (λ (b : List ℕ). counts_shown a.trainer.tree b out) f ∙ s,
           q ∙ ap (λ (b : List ℕ). counts_after a.trainer.tree b out (counts_shown a.trainer.tree b out)) f

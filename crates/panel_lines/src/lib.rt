@@ -1,4 +1,6 @@
 // The panel's lines: a record and its counts, shown as the share of each leaf.
+#![tactic(auto)]
+
 ghost use Rattle.std.specs.Prelude.{◌≡◌};
 ghost use Rattle.panel_lines.specs.Panel.{panel_of, out_after};
 

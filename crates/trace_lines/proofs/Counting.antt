@@ -9,7 +9,7 @@ use Rattle.sender.specs.declared.Event.{Event}
 use Rattle.trace_lines.specs.declared.inner.read.Counted.TheVariants.{Whole, Broken}
 use Rattle.trace_lines.specs.Trace.{size_of, head_holds, whole_events, events_from, whole_in_of, events_in}
 use Rattle.trace_lines.specs.Parts.{event_size, counted_of}
-use Rattle.trace_lines.proofs.Events.{lent, size-zero, size-some, size-there, size-bounds, whole-none, events-none, whole-turn, events-turn}
+use Rattle.trace_lines.proofs.Events.{lent, size-zero, size-some, size_there, size-bounds, whole_none, events_none, whole_turn, events_turn}
 
 -- n events stand before place at, and the rest is as whole as all
 pub record Counting (body : List ℕ) (at n : ℕ) : Type 0 where
@@ -25,49 +25,49 @@ counting_starts body =
 
 module _ (body : List ℕ) (at n size : ℕ) (c : Counting body at n) where
   module _ (l : at < length body) (e : size ≡ event_size (take (length body - at) (drop at body))) where
-    size-left : size ≡ event_size (drop at body)
-    size-left = e ∙ ap event_size (lent body at n)
+    size_left : size ≡ event_size (drop at body)
+    size_left = e ∙ ap event_size (lent body at n)
 
-    pub counted-broken : size ≡ 0 → Broken ≡ counted_of body
+    pub counted_broken : size ≡ 0 → Broken ≡ counted_of body
     unfolding counted_of
-    counted-broken z =
-        let f = size-zero (drop at body) (sym size-left ∙ z) in
-        let w : whole_in_of body ≡ false = c.whole ∙ whole-turn body at n c.steps l ∙ rw f in
+    counted_broken z =
+        let f = size-zero (drop at body) (sym size_left ∙ z) in
+        let w : whole_in_of body ≡ false = c.whole ∙ whole_turn body at n c.steps l ∙ rw f in
         rw w
 
     module _ (z : size ≡ 0 → ⊥) where
       head : (head_holds (drop at body) ≡ true) × (event_size (drop at body) ≡ size_of (drop at body))
-      head = size-some (drop at body) (λ q. z (size-left ∙ q))
+      head = size-some (drop at body) (λ q. z (size_left ∙ q))
 
       size_is : size ≡ size_of (drop at body)
-      size_is = size-left ∙ head.1
+      size_is = size_left ∙ head.1
 
-      pub counting-inside : (at + size ≤ length body) × (2 ≤ size)
-      counting-inside =
-          let a = size-there (drop at body) head.0 in
+      pub counting_inside : (at + size ≤ length body) × (2 ≤ size)
+      counting_inside =
+          let a = size_there (drop at body) head.0 in
           let b = size-bounds (drop at body) head.0 in
           (omega (arith, size_is, length-drop at body), omega (arith, size_is))
 
-      pub counting-turn : Counting body (at + size) (n + 1)
-      counting-turn =
-          let a = counting-inside in
+      pub counting_turn : Counting body (at + size) (n + 1)
+      counting_turn =
+          let a = counting_inside in
           let place : drop (at + size_of (drop at body)) body ≡ drop (at + size) body = ap (λ (k : ℕ). drop (at + k) body) (sym size_is) in
           let h = head.0 in
           record {
             steps = omega (arith, c.steps);
             inside = a.0;
             whole =
-                c.whole ∙ whole-turn body at n c.steps l ∙ rw h
+                c.whole ∙ whole_turn body at n c.steps l ∙ rw h
                 (ap (whole_events (length body - (n + 1))) place);
             count =
-                c.count ∙ ap (λ (es : List Event). n + length es) (events-turn body at n c.steps l)
+                c.count ∙ ap (λ (es : List Event). n + length es) (events_turn body at n c.steps l)
                 ∙ ap (λ (r : List ℕ). n + suc (length (events_from (length body - (n + 1)) r))) place ∙ omega arith;
           }
 
-  pub counted-whole : length body ≤ at → Whole n ≡ counted_of body
+  pub counted_whole : length body ≤ at → Whole n ≡ counted_of body
   unfolding counted_of
-  counted-whole l =
+  counted_whole l =
       let z : length (drop at body) ≡ 0 = omega (arith, length-drop at body) in
-      let w : whole_in_of body ≡ true = c.whole ∙ whole-none (drop at body) z (length body - n) in
-      let k : length (events_in body) ≡ n = c.count ∙ ap (λ (es : List Event). n + length es) (events-none (drop at body) z (length body - n)) ∙ omega arith in
+      let w : whole_in_of body ≡ true = c.whole ∙ whole_none (drop at body) z (length body - n) in
+      let k : length (events_in body) ≡ n = c.count ∙ ap (λ (es : List Event). n + length es) (events_none (drop at body) z (length body - n)) ∙ omega arith in
       rw (w, k)

@@ -41,16 +41,16 @@ module _ (bytes : List ℕ) where
 
   -- a whole event has 2 to 18 bytes, and they are there
   module _ (h : head_holds bytes ≡ true) where
-    head-both : kind_holds (get_or bytes 0 0) (get_or bytes 1 0) && leb (size_of bytes) (length bytes) ≡ true
-    head-both = sym head_as ∙ h
+    head_both : kind_holds (get_or bytes 0 0) (get_or bytes 1 0) && leb (size_of bytes) (length bytes) ≡ true
+    head_both = sym head_as ∙ h
 
     pub size-bounds : (2 ≤ size_of bytes) × (size_of bytes ≤ 18)
     size-bounds =
-        let k = kind_size (get_or bytes 0 0) (get_or bytes 1 0) (and_left (kind_holds (get_or bytes 0 0) (get_or bytes 1 0)) (leb (size_of bytes) (length bytes)) head-both) in
+        let k = kind_size (get_or bytes 0 0) (get_or bytes 1 0) (and_left (kind_holds (get_or bytes 0 0) (get_or bytes 1 0)) (leb (size_of bytes) (length bytes)) head_both) in
         (omega arith, omega arith)
 
-    pub size-there : size_of bytes ≤ length bytes
-    size-there = leb-true (size_of bytes) (length bytes) (and_right (kind_holds (get_or bytes 0 0) (get_or bytes 1 0)) (leb (size_of bytes) (length bytes)) head-both)
+    pub size_there : size_of bytes ≤ length bytes
+    size_there = leb-true (size_of bytes) (length bytes) (and_right (kind_holds (get_or bytes 0 0) (get_or bytes 1 0)) (leb (size_of bytes) (length bytes)) head_both)
 
   -- the code's 0 says that the event is not whole
   size_by : event_size bytes ≡ cond (head_holds bytes) (size_of bytes) 0
@@ -73,28 +73,28 @@ module _ (bytes : List ℕ) where
 
   -- ---- no bytes are no events
   module _ (e : length bytes ≡ 0) where
-    pub whole-none : (n : ℕ) → whole_events n bytes ≡ true
+    pub whole_none : (n : ℕ) → whole_events n bytes ≡ true
     unfolding whole_events
-    whole-none zero = eq-eqb (length bytes) 0 e
-    whole-none (suc n) = rw (eq-eqb (length bytes) 0 e)
+    whole_none zero = eq-eqb (length bytes) 0 e
+    whole_none (suc n) = rw (eq-eqb (length bytes) 0 e)
 
-    pub events-none : (n : ℕ) → events_from n bytes ≡ []
+    pub events_none : (n : ℕ) → events_from n bytes ≡ []
     unfolding events_from
-    events-none zero = refl
-    events-none (suc n) = rw (eq-eqb (length bytes) 0 e)
+    events_none zero = refl
+    events_none (suc n) = rw (eq-eqb (length bytes) 0 e)
 
   -- ---- some bytes are an event and those after it
   module _ (l : 0 < length bytes) where
     some : eqb (length bytes) 0 ≡ false
     some = ne_eqb (length bytes) 0 (λ e. absurd (omega (arith, e)))
 
-    pub whole-some : (n : ℕ) → whole_events (suc n) bytes ≡ head_holds bytes && whole_events n (drop (size_of bytes) bytes)
+    pub whole_some : (n : ℕ) → whole_events (suc n) bytes ≡ head_holds bytes && whole_events n (drop (size_of bytes) bytes)
     unfolding whole_events
-    whole-some n = rw some
+    whole_some n = rw some
 
-    pub events-some : (n : ℕ) → events_from (suc n) bytes ≡ event_in bytes ∷ events_from n (drop (size_of bytes) bytes)
+    pub events_some : (n : ℕ) → events_from (suc n) bytes ≡ event_in bytes ∷ events_from n (drop (size_of bytes) bytes)
     unfolding events_from
-    events-some n = rw some
+    events_some n = rw some
 
 -- ---- whole events have two bytes each at least
 pub events_few : (f : ℕ) (bytes : List ℕ) → whole_events f bytes ≡ true → 2 * length (events_from f bytes) ≤ length bytes
@@ -107,13 +107,13 @@ events_few (suc f) bytes w = by (eqb (length bytes) 0) refl (events_few f (drop 
 
     by : (b : Bool) → eqb (length bytes) 0 ≡ b → (rest ≡ true → 2 * length (events_from f (drop (size_of bytes) bytes)) ≤ length (drop (size_of bytes) bytes))
         → 2 * length (events_from (suc f) bytes) ≤ length bytes
-    by true e more = omega (arith, ap length (events-none bytes (eqb-true (length bytes) 0 e) (suc f)))
+    by true e more = omega (arith, ap length (events_none bytes (eqb-true (length bytes) 0 e) (suc f)))
     by false e more =
         let l : 0 < length bytes = some_length (length bytes) (eqb-false (length bytes) 0 e) in
-        let q = sym (whole-some bytes l f) ∙ w in
+        let q = sym (whole_some bytes l f) ∙ w in
         let h = and_left (head_holds bytes) rest q in
         let i = more (and_right (head_holds bytes) rest q) in
-        omega (arith, ap length (events-some bytes l f), size-bounds bytes h, size-there bytes h, length-drop (size_of bytes) bytes)
+        omega (arith, ap length (events_some bytes l f), size-bounds bytes h, size_there bytes h, length-drop (size_of bytes) bytes)
 
 -- ---- what is left of a body from place at on, after i events
 module _ (body : List ℕ) (at i : ℕ) where
@@ -130,18 +130,18 @@ module _ (body : List ℕ) (at i : ℕ) where
     some_left : 0 < length left
     some_left = omega (arith, length-drop at body)
 
-    fuel-suc : fuel ≡ suc (length body - (i + 1))
-    fuel-suc = omega arith
+    fuel_suc : fuel ≡ suc (length body - (i + 1))
+    fuel_suc = omega arith
 
     after : drop (size_of left) left ≡ drop (at + size_of left) body
     after = drop-drop (size_of left) at body
 
-    pub whole-turn : whole_events fuel left ≡ head_holds left && whole_events (length body - (i + 1)) (drop (at + size_of left) body)
-    whole-turn =
-        ap (λ (k : ℕ). whole_events k left) fuel-suc ∙ whole-some left some_left (length body - (i + 1))
+    pub whole_turn : whole_events fuel left ≡ head_holds left && whole_events (length body - (i + 1)) (drop (at + size_of left) body)
+    whole_turn =
+        ap (λ (k : ℕ). whole_events k left) fuel_suc ∙ whole_some left some_left (length body - (i + 1))
         ∙ ap (λ (r : List ℕ). head_holds left && whole_events (length body - (i + 1)) r) after
 
-    pub events-turn : events_from fuel left ≡ event_in left ∷ events_from (length body - (i + 1)) (drop (at + size_of left) body)
-    events-turn =
-        ap (λ (k : ℕ). events_from k left) fuel-suc ∙ events-some left some_left (length body - (i + 1))
+    pub events_turn : events_from fuel left ≡ event_in left ∷ events_from (length body - (i + 1)) (drop (at + size_of left) body)
+    events_turn =
+        ap (λ (k : ℕ). events_from k left) fuel_suc ∙ events_some left some_left (length body - (i + 1))
         ∙ ap (λ (r : List ℕ). event_in left ∷ events_from (length body - (i + 1)) r) after

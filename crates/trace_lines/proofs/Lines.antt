@@ -18,23 +18,23 @@ abbrev pub refused : List ℕ
 refused = 114 ∷ 101 ∷ 102 ∷ 117 ∷ 115 ∷ 101 ∷ 100 ∷ 32 ∷ []
 
 module _ (k : ℕ) where
-  pub refusal-count : length (refusal_line k) ≡ 9 + length (decimal k)
+  pub refusal_count : length (refusal_line k) ≡ 9 + length (decimal k)
   unfolding refusal_line
-  refusal-count = let a = length-append (decimal k) (10 ∷ []) in omega arith
+  refusal_count = let a = length-append (decimal k) (10 ∷ []) in omega arith
 
-  pub refusal-written : {l l1 l2 l3 : List ℕ} {at a b d : ℕ} → Wrote l at l1 a refused → Wrote l1 a l2 b (decimal k) → Wrote l2 b l3 d (10 ∷ [])
+  pub refusal_written : {l l1 l2 l3 : List ℕ} {at a b d : ℕ} → Wrote l at l1 a refused → Wrote l1 a l2 b (decimal k) → Wrote l2 b l3 d (10 ∷ [])
       → Wrote l at l3 d (refusal_line k)
   unfolding refusal_line
-  refusal-written p q r = then p (then q r)
+  refusal_written p q r = then p (then q r)
 
 -- ---- a window
 module _ (w : ℕ) (c : Bool) where
-  pub window-count : length (window_line w c) ≡ length (decimal w) + length (line_end c)
-  window-count = length-append (decimal w) (line_end c)
+  pub window_count : length (window_line w c) ≡ length (decimal w) + length (line_end c)
+  window_count = length-append (decimal w) (line_end c)
 
-  pub window-written : {l l1 l2 : List ℕ} {at a b : ℕ} {xs : List ℕ} → Wrote l at l1 a (decimal w) → xs ≡ line_end c → Wrote l1 a l2 b xs
+  pub window_written : {l l1 l2 : List ℕ} {at a b : ℕ} {xs : List ℕ} → Wrote l at l1 a (decimal w) → xs ≡ line_end c → Wrote l1 a l2 b xs
       → Wrote l at l2 b (window_line w c)
-  window-written p e q = then p (named e q)
+  window_written p e q = then p (named e q)
 
 pub end_clipped : (c : Bool) → c ≡ true → 32 ∷ 99 ∷ 10 ∷ [] ≡ line_end c
 unfolding line_end

@@ -15,12 +15,12 @@ use Rattle.panel_lines.specs.Panel.{record_part, start_holds}
 use Rattle.panel_lines.specs.Parts.{Wrote}
 use Rattle.panel_lines.proofs.Decimal.{decimal_few}
 use Rattle.trace_lines.specs.Trace.{trace_part, trace_holds, refusal_line, text_of, printed_of, room_for, trace_of, out_after}
-use Rattle.trace_lines.proofs.Lines.{refusal-count}
+use Rattle.trace_lines.proofs.Lines.{refusal_count}
 use Rattle.trace_lines.proofs.Ways.{room_most}
 
 -- a refusal with a number of two digits
 pub refusal_few : (k : ℕ) → k < 100 → length (refusal_line k) ≤ 11
-refusal_few k l = let a = decimal_few 1 k l in omega (arith, refusal-count k)
+refusal_few k l = let a = decimal_few 1 k l in omega (arith, refusal_count k)
 
 pub same_size : (m n : ℕ) → Size m ≡ Size n → n ≡ m
 same_size m n e = cc
@@ -59,51 +59,51 @@ module _ (text : List ℕ) where
   turned k false y z w f room e = told 6 k (omega arith) e
 
 module _ (input out : List ℕ) where
-  printed-sized : (n : ℕ) → trace_of input out ≡ Size n → (printed_of input ≡ text_of input) × (n ≡ length (text_of input))
+  printed_sized : (n : ℕ) → trace_of input out ≡ Size n → (printed_of input ≡ text_of input) × (n ≡ length (text_of input))
   unfolding trace_of printed_of
-  printed-sized n e =
+  printed_sized n e =
       sized (text_of input) n (start_holds input) (version_holds (record_part input)) (body_holds (record_part input)) (trace_holds (trace_part input))
       (leb (room_for (trace_part input)) (length out)) e
 
   -- the buffer has room for the lines of any trace
   module _ (l : 180191 ≤ length out) where
-    pub room-there : trace_holds (trace_part input) ≡ true → leb (room_for (trace_part input)) (length out) ≡ true
-    room-there h = le-leb (room_for (trace_part input)) (length out) (omega (arith, room_most (trace_part input) h))
+    pub room_there : trace_holds (trace_part input) ≡ true → leb (room_for (trace_part input)) (length out) ≡ true
+    room_there h = le-leb (room_for (trace_part input)) (length out) (omega (arith, room_most (trace_part input) h))
 
-    pub printed-turned : (k : ℕ) → trace_of input out ≡ Refused k → (printed_of input ≡ refusal_line k) × (k < 100)
+    pub printed_turned : (k : ℕ) → trace_of input out ≡ Refused k → (printed_of input ≡ refusal_line k) × (k < 100)
     unfolding trace_of printed_of
-    printed-turned k e =
+    printed_turned k e =
         turned (text_of input) k (start_holds input) (version_holds (record_part input)) (body_holds (record_part input)) (trace_holds (trace_part input))
-        (leb (room_for (trace_part input)) (length out)) room-there e
+        (leb (room_for (trace_part input)) (length out)) room_there e
 
   abbrev Printed : ℕ → List ℕ → Type 0
   Printed n r = (n ≡ length (printed_of input)) × (r ≡ printed_of input ++ drop (length (printed_of input)) out)
 
   module _ {v : Saved} {m : List ℕ} (p : v ≡ trace_of input out) (q : m ≡ out_after input out (trace_of input out)) where
-    pub lines-printed : (n : ℕ) → v ≡ Size n → Printed n m
+    pub lines_printed : (n : ℕ) → v ≡ Size n → Printed n m
     unfolding out_after
-    lines-printed n e =
+    lines_printed n e =
         let f : trace_of input out ≡ Size n = sym p ∙ e in
-        let s = printed-sized n f in (
+        let s = printed_sized n f in (
           s.1 ∙ ap length (sym s.0),
           q ∙ rw f (rw (s.0, ← s.1)),
         )
 
     module _ (l : 180191 ≤ length out) (k : ℕ) (e : v ≡ Refused k) where
-      as-refused : trace_of input out ≡ Refused k
-      as-refused = sym p ∙ e
+      as_refused : trace_of input out ≡ Refused k
+      as_refused = sym p ∙ e
 
       kept : m ≡ out
       unfolding out_after
-      kept = q ∙ rw as-refused
+      kept = q ∙ rw as_refused
 
-      pub refusal-room : 0 + length (refusal_line k) ≤ length m
-      refusal-room = let t = printed-turned l k as-refused in let b = refusal_few k t.1 in omega (arith, ap length kept)
+      pub refusal_room : 0 + length (refusal_line k) ≤ length m
+      refusal_room = let t = printed_turned l k as_refused in let b = refusal_few k t.1 in omega (arith, ap length kept)
 
-      pub refusal-printed : {r : List ℕ} {n : ℕ} → Wrote m 0 r n (refusal_line k) → Printed n r
-      refusal-printed {r} {n} w =
-          let t = (printed-turned l k as-refused).0 in
-          let s = stored m (refusal_line k) (omega (arith, refusal-room)) w.stored in (
+      pub refusal_printed : {r : List ℕ} {n : ℕ} → Wrote m 0 r n (refusal_line k) → Printed n r
+      refusal_printed {r} {n} w =
+          let t = (printed_turned l k as_refused).0 in
+          let s = stored m (refusal_line k) (omega (arith, refusal_room)) w.stored in (
             omega (arith, w.place, ap length t),
             s ∙ ap (λ (o : List ℕ). refusal_line k ++ drop (length (refusal_line k)) o) kept
                 ∙ ap (λ (b : List ℕ). b ++ drop (length b) out) (sym t),

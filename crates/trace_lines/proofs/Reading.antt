@@ -21,21 +21,21 @@ or-none true = refl
 or-none false = refl
 
 module _ (len kind : ℕ) where
-  pub kind-ack : kind ≡ 1 → eqb len 17 ≡ kind_holds len kind
+  pub kind_ack : kind ≡ 1 → eqb len 17 ≡ kind_holds len kind
   unfolding kind_holds
-  kind-ack e = rw e (or-none (eqb len 17))
+  kind_ack e = rw e (or-none (eqb len 17))
 
-  pub kind-send : kind ≡ 2 → eqb len 9 ≡ kind_holds len kind
+  pub kind_send : kind ≡ 2 → eqb len 9 ≡ kind_holds len kind
   unfolding kind_holds
-  kind-send e = rw e (or-none (eqb len 9))
+  kind_send e = rw e (or-none (eqb len 9))
 
-  pub kind-tick : kind ≡ 3 → eqb len 1 ≡ kind_holds len kind
+  pub kind_tick : kind ≡ 3 → eqb len 1 ≡ kind_holds len kind
   unfolding kind_holds
-  kind-tick e = rw e
+  kind_tick e = rw e
 
-  pub kind-none : (kind ≡ 1 → ⊥) → (kind ≡ 2 → ⊥) → (kind ≡ 3 → ⊥) → false ≡ kind_holds len kind
+  pub kind_none : (kind ≡ 1 → ⊥) → (kind ≡ 2 → ⊥) → (kind ≡ 3 → ⊥) → false ≡ kind_holds len kind
   unfolding kind_holds
-  kind-none a b c = rw (ne_eqb kind 1 a, ne_eqb kind 2 b, ne_eqb kind 3 c)
+  kind_none a b c = rw (ne_eqb kind 1 a, ne_eqb kind 2 b, ne_eqb kind 3 c)
 
 -- ---- the size of an event
 size_as : (bytes : List ℕ)
@@ -47,28 +47,28 @@ module _ (bytes : List ℕ) {len kind : ℕ} {b : Bool} (p : len ≡ get_or byte
   size_by : event_size bytes ≡ cond (b && leb (1 + len) (length bytes)) (1 + len) 0
   size_by = size_as bytes ∙ rw (← p, ← q, ← e)
 
-  pub size-whole : b ≡ true → 1 + len ≤ length bytes → 1 + len ≡ event_size bytes
-  size-whole t l = rw (size_by, t, le-leb (1 + len) (length bytes) l)
+  pub size_whole : b ≡ true → 1 + len ≤ length bytes → 1 + len ≡ event_size bytes
+  size_whole t l = rw (size_by, t, le-leb (1 + len) (length bytes) l)
 
-  pub size-cut : b ≡ true → length bytes < 1 + len → 0 ≡ event_size bytes
-  size-cut t l = rw (size_by, t, lt-leb (1 + len) (length bytes) l)
+  pub size_cut : b ≡ true → length bytes < 1 + len → 0 ≡ event_size bytes
+  size_cut t l = rw (size_by, t, lt-leb (1 + len) (length bytes) l)
 
   pub size_none : b ≡ false → 0 ≡ event_size bytes
   size_none f = rw (size_by, f)
 
 -- ---- an event by its kind
 module _ (bytes : List ℕ) {kind : ℕ} (e : kind ≡ get_or bytes 1 0) where
-  pub by-ack : {sent received : Float} → kind ≡ 1 → sent ≡ float_at bytes 2 → received ≡ float_at bytes 10 → Ack sent received Absent ≡ event_in bytes
+  pub by_ack : {sent received : Float} → kind ≡ 1 → sent ≡ float_at bytes 2 → received ≡ float_at bytes 10 → Ack sent received Absent ≡ event_in bytes
   unfolding event_in
-  by-ack f a b = rw (← e, eq-eqb kind 1 f) (λ j. Ack (a j) (b j) Absent)
+  by_ack f a b = rw (← e, eq-eqb kind 1 f) (λ j. Ack (a j) (b j) Absent)
 
-  pub by-send : {sent : Float} → (kind ≡ 1 → ⊥) → kind ≡ 2 → sent ≡ float_at bytes 2 → Send sent ≡ event_in bytes
+  pub by_send : {sent : Float} → (kind ≡ 1 → ⊥) → kind ≡ 2 → sent ≡ float_at bytes 2 → Send sent ≡ event_in bytes
   unfolding event_in
-  by-send n f a = rw (← e, ne_eqb kind 1 n, eq-eqb kind 2 f) (ap Send a)
+  by_send n f a = rw (← e, ne_eqb kind 1 n, eq-eqb kind 2 f) (ap Send a)
 
-  pub by-tick : (kind ≡ 1 → ⊥) → (kind ≡ 2 → ⊥) → Tick ≡ event_in bytes
+  pub by_tick : (kind ≡ 1 → ⊥) → (kind ≡ 2 → ⊥) → Tick ≡ event_in bytes
   unfolding event_in
-  by-tick n m = rw (← e, ne_eqb kind 1 n, ne_eqb kind 2 m)
+  by_tick n m = rw (← e, ne_eqb kind 1 n, ne_eqb kind 2 m)
 
 -- ---- the start
 module _ (bytes : List ℕ) where
@@ -76,17 +76,17 @@ module _ (bytes : List ℕ) where
   unfolding start_of
   start_few l = rw (lt-leb 5 (length bytes) l)
 
-  pub start-over : 32768 < length bytes → false ≡ start_of bytes
+  pub start_over : 32768 < length bytes → false ≡ start_of bytes
   unfolding start_of
-  start-over l = rw (le-leb 5 (length bytes) (omega arith), lt-leb (length bytes) 32768 l)
+  start_over l = rw (le-leb 5 (length bytes) (omega arith), lt-leb (length bytes) 32768 l)
 
   module _ {n : ℕ} (l : 5 ≤ length bytes) (h : length bytes ≤ 32768) (e : n ≡ number_at bytes 0 4) where
-    start-by : start_of bytes ≡ eqb n (length bytes - 4) && eqb (get_or bytes 4 0) 1
+    start_by : start_of bytes ≡ eqb n (length bytes - 4) && eqb (get_or bytes 4 0) 1
     unfolding start_of
-    start-by = rw (le-leb 5 (length bytes) l, le-leb (length bytes) 32768 h, ← e)
+    start_by = rw (le-leb 5 (length bytes) l, le-leb (length bytes) 32768 h, ← e)
 
-    pub start-other : (n ≡ length bytes - 4 → ⊥) → eqb n (length bytes - 4) ≡ start_of bytes
-    start-other m = rw (start-by, ne_eqb n (length bytes - 4) m)
+    pub start_other : (n ≡ length bytes - 4 → ⊥) → eqb n (length bytes - 4) ≡ start_of bytes
+    start_other m = rw (start_by, ne_eqb n (length bytes - 4) m)
 
-    pub start-told : {v : ℕ} → n ≡ length bytes - 4 → v ≡ get_or bytes 4 0 → eqb v 1 ≡ start_of bytes
-    start-told f g = rw (start-by, eq-eqb n (length bytes - 4) f) (ap (λ (k : ℕ). eqb k 1) g)
+    pub start_told : {v : ℕ} → n ≡ length bytes - 4 → v ≡ get_or bytes 4 0 → eqb v 1 ≡ start_of bytes
+    start_told f g = rw (start_by, eq-eqb n (length bytes - 4) f) (ap (λ (k : ℕ). eqb k 1) g)

@@ -2,7 +2,7 @@
 use mathlib.Core.Path.{◌≡◌, refl, sym, ap, ◌∙◌}
 use mathlib.Core.Bool.{Bool, true, false, false≢true, cond}
 use mathlib.Core.List.{List}
-use Prim.Native.Nat.{ℕ, ◌-◌}
+use Prim.Native.Nat.{ℕ}
 use borrow.Author.Tests.{eq-eqb, ne_eqb}
 use lib.Dec.{eqb}
 use Rattle.trainer.specs.declared.Answered.{Answered}
@@ -38,16 +38,16 @@ by_loader {A} input h turn rest = by (length_holds bytes) (version_holds bytes) 
     by false y z e = absurd (false≢true e)
 
 module _ (input out : List ℕ) where
-  trace-nested : trace_of input out
+  trace_nested : trace_of input out
       ≡ cond (start_holds input)
       (cond (version_holds (record_part input)) (cond (body_holds (record_part input)) (traced_of (tree_in input) (trace_part input) out) (Refused 8)) (Refused 7))
       (Refused 6)
   unfolding trace_of traced_of
-  trace-nested = refl
+  trace_nested = refl
 
-  pub trace-short : start_holds input ≡ false → (Refused 6 ≡ trace_of input out) × (out ≡ out_after input out (trace_of input out))
+  pub trace_short : start_holds input ≡ false → (Refused 6 ≡ trace_of input out) × (out ≡ out_after input out (trace_of input out))
   unfolding out_after
-  trace-short h = let e : trace_of input out ≡ Refused 6 = trace-nested ∙ rw h in (sym e, rw e)
+  trace_short h = let e : trace_of input out ≡ Refused 6 = trace_nested ∙ rw h in (sym e, rw e)
 
   after_same : (x : Saved) → traced_after (tree_in input) (trace_part input) out x ≡ out_after input out x
   unfolding out_after traced_after
@@ -55,21 +55,21 @@ module _ (input out : List ℕ) where
   after_same (Refused k) = refl
 
   module _ (h : start_holds input ≡ true) {a : Answered} (e : a ≡ load_of (record_part input)) where
-    trace-by : trace_of input out ≡ cond (eqb a.refused 0) (traced_of (tree_in input) (trace_part input) out) (Refused a.refused)
-    trace-by = trace-nested ∙ rw (h, e) (by_loader input h Refused (traced_of (tree_in input) (trace_part input) out))
+    trace_by : trace_of input out ≡ cond (eqb a.refused 0) (traced_of (tree_in input) (trace_part input) out) (Refused a.refused)
+    trace_by = trace_nested ∙ rw (h, e) (by_loader input h Refused (traced_of (tree_in input) (trace_part input) out))
 
-    pub trace-refused : (a.refused ≡ 0 → ⊥) → (Refused a.refused ≡ trace_of input out) × (out ≡ out_after input out (trace_of input out))
+    pub trace_refused : (a.refused ≡ 0 → ⊥) → (Refused a.refused ≡ trace_of input out) × (out ≡ out_after input out (trace_of input out))
     unfolding out_after
-    trace-refused n =
+    trace_refused n =
         let q = ne_eqb a.refused 0 n in
-        let p : trace_of input out ≡ Refused a.refused = trace-by ∙ rw q in
+        let p : trace_of input out ≡ Refused a.refused = trace_by ∙ rw q in
         (sym p, rw p)
 
-    pub trace-taken : (bytes : List ℕ) {v : Saved} {r : List ℕ} → bytes ≡ trace_part input → a.refused ≡ 0 → Traced a.trainer.tree bytes out v r
+    pub trace_taken : (bytes : List ℕ) {v : Saved} {r : List ℕ} → bytes ≡ trace_part input → a.refused ≡ 0 → Traced a.trainer.tree bytes out v r
         → (v ≡ trace_of input out) × (r ≡ out_after input out (trace_of input out))
-    trace-taken bytes f z p =
+    trace_taken bytes f z p =
         let t : a.trainer.tree ≡ tree_in input = ap (λ (b : Answered). b.trainer.tree) (e ∙ loaded (record_part input) (sym (ap (λ (b : Answered). b.refused) e) ∙ z)) in
-        let s : traced_of (tree_in input) (trace_part input) out ≡ trace_of input out = sym (trace-by ∙ rw (eq-eqb a.refused 0 z)) in (
+        let s : traced_of (tree_in input) (trace_part input) out ≡ trace_of input out = sym (trace_by ∙ rw (eq-eqb a.refused 0 z)) in (
           p.0 ∙ (λ j. traced_of (t j) (f j) out) ∙ s,
           p.1 ∙ (λ j. traced_after (t j) (f j) out (traced_of (t j) (f j) out)) ∙ ap (traced_after (tree_in input) (trace_part input) out) s
               ∙ after_same (trace_of input out),

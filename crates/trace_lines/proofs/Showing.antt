@@ -19,7 +19,7 @@ use Rattle.sender.specs.Sender.{fresh_sender, replied_to, left_by}
 use Rattle.panel_lines.specs.Parts.{Wrote}
 use Rattle.panel_lines.proofs.Lines.{then, named, nothing}
 use Rattle.trace_lines.specs.Trace.{size_of, head_holds, event_in, whole_events, events_from, whole_in_of, events_in, line_of, lines_from}
-use Rattle.trace_lines.proofs.Events.{lent, size-bounds, size-there, events-none, whole-turn, events-turn}
+use Rattle.trace_lines.proofs.Events.{lent, size-bounds, size_there, events_none, whole_turn, events_turn}
 use Rattle.trace_lines.proofs.Windows.{reply_small, left_small, line_few}
 
 pub lines_none : (t : RuleTree) (s : Sender) → lines_from t s [] ≡ []
@@ -64,8 +64,8 @@ pub record Shown (t : RuleTree) (body : List ℕ) (n : ℕ) (s : Sender) (l m : 
   pub lines : lines_from t s (events_in body) ≡ done ++ lines_from t u (events_from (length body - i) (drop at body))
 
 module _ (t : RuleTree) (body : List ℕ) (n : ℕ) (s : Sender) (l : List ℕ) where
-  pub shown-starts : whole_in_of body ≡ true → n ≡ length (events_in body) → s.window ≤ 1000000 → Shown t body n s l l s 0 0 0
-  shown-starts w k b =
+  pub shown_starts : whole_in_of body ≡ true → n ≡ length (events_in body) → s.window ≤ 1000000 → Shown t body n s l l s 0 0 0
+  shown_starts w k b =
       let e : length body - 0 ≡ length body = omega arith in
       record {
         some = omega arith;
@@ -84,29 +84,29 @@ module _ (t : RuleTree) (body : List ℕ) (n : ℕ) (s : Sender) (l : List ℕ) 
     rest : List Event
     rest = events_from (length body - i) (drop at body)
 
-    pub shown-length : length m ≡ length l
-    shown-length = ap length c.wrote.stored ∙ length-sets l 0 c.done
+    pub shown_length : length m ≡ length l
+    shown_length = ap length c.wrote.stored ∙ length-sets l 0 c.done
 
-    pub shown-done : n ≤ i → Wrote l 0 m next (lines_from t s (events_in body))
+    pub shown_done : n ≤ i → Wrote l 0 m next (lines_from t s (events_in body))
     unfolding rest
-    shown-done b =
+    shown_done b =
         let e = none_left rest (omega (arith, c.count, c.some)) in
         named (sym (c.lines ∙ ap (λ (es : List Event). c.done ++ lines_from t u es) e ∙ ap (λ (r : List ℕ). c.done ++ r) (lines_none t u) ∙ append-nil c.done))
         c.wrote
 
     module _ (g : i < n) where
-      pub shown-inside : at < length body
+      pub shown_inside : at < length body
       unfolding rest
-      shown-inside = by (ltb at (length body)) refl
+      shown_inside = by (ltb at (length body)) refl
         where
           by : (b : Bool) → ltb at (length body) ≡ b → at < length body
           by true e = ltb-true at (length body) e
           by false e =
               let z : length (drop at body) ≡ 0 = omega (arith, length-drop at body, ltb-false at (length body) e) in
-              absurd (omega (arith, c.count, ap length (events-none (drop at body) z (length body - i))))
+              absurd (omega (arith, c.count, ap length (events_none (drop at body) z (length body - i))))
 
       both : head_holds (drop at body) && whole_events (length body - (i + 1)) (drop (at + size_of (drop at body)) body) ≡ true
-      both = sym (whole-turn body at i c.steps shown-inside) ∙ c.whole
+      both = sym (whole_turn body at i c.steps shown_inside) ∙ c.whole
 
       head : head_holds (drop at body) ≡ true
       head = and_left (head_holds (drop at body)) (whole_events (length body - (i + 1)) (drop (at + size_of (drop at body)) body)) both
@@ -117,51 +117,51 @@ module _ (t : RuleTree) (body : List ℕ) (n : ℕ) (s : Sender) (l : List ℕ) 
           size_is : size ≡ size_of (drop at body)
           size_is = b ∙ ap (λ (p : List ℕ). size_of p) (lent body at i)
 
-          pub next-inside : (at + size ≤ length body) × (2 ≤ size)
-          next-inside =
-              let p = size-there (drop at body) head in
+          pub next_inside : (at + size ≤ length body) × (2 ≤ size)
+          next_inside =
+              let p = size_there (drop at body) head in
               let o = size-bounds (drop at body) head in
               (omega (arith, size_is, length-drop at body), omega (arith, size_is))
 
-          pub line-short : length (line_of r) ≤ 11
-          line-short = subst (λ (z : Reply). length (line_of z) ≤ 11) (sym q) (line_few (replied_to u (on t x)) (reply_small t u x c.small))
+          pub line_short : length (line_of r) ≤ 11
+          line_short = subst (λ (z : Reply). length (line_of z) ≤ 11) (sym q) (line_few (replied_to u (on t x)) (reply_small t u x c.small))
 
-          pub line-room : 11 * n ≤ length l → next + length (line_of r) ≤ length m
-          line-room f = omega (arith, c.room, line-short, shown-length)
+          pub line_room : 11 * n ≤ length l → next + length (line_of r) ≤ length m
+          line_room f = omega (arith, c.room, line_short, shown_length)
 
           after : drop (at + size_of (drop at body)) body ≡ drop (at + size) body
           after = ap (λ (k : ℕ). drop (at + k) body) (sym size_is)
 
-          event-is : event_in (drop at body) ≡ x
-          event-is = sym (a ∙ ap event_in (lent body at i))
+          event_is : event_in (drop at body) ≡ x
+          event_is = sym (a ∙ ap event_in (lent body at i))
 
           left_is : rest ≡ x ∷ events_from (length body - (i + 1)) (drop (at + size) body)
           unfolding rest
           left_is =
-              events-turn body at i c.steps shown-inside
-              ∙ (λ j. event-is j ∷ events_from (length body - (i + 1)) (after j))
+              events_turn body at i c.steps shown_inside
+              ∙ (λ j. event_is j ∷ events_from (length body - (i + 1)) (after j))
 
-          lines-on : {v : Sender} → v ≡ left_by u r → lines_from t u rest ≡ line_of r ++ lines_from t v (events_from (length body - (i + 1)) (drop (at + size) body))
-          lines-on {v} f =
+          lines_on : {v : Sender} → v ≡ left_by u r → lines_from t u rest ≡ line_of r ++ lines_from t v (events_from (length body - (i + 1)) (drop (at + size) body))
+          lines_on {v} f =
               ap (lines_from t u) left_is ∙ lines_more t u x (events_from (length body - (i + 1)) (drop (at + size) body))
               ∙ ap (λ (z : Reply). line_of z ++ lines_from t (left_by u z) (events_from (length body - (i + 1)) (drop (at + size) body))) (sym q)
               ∙ ap (λ (w : Sender). line_of r ++ lines_from t w (events_from (length body - (i + 1)) (drop (at + size) body))) (sym f)
 
-          pub shown-turn : {m1 : List ℕ} {v : Sender} {k : ℕ} → Wrote m next m1 k (line_of r) → v ≡ left_by u r → Shown t body n s l m1 v (at + size) k (i + 1)
+          pub shown_turn : {m1 : List ℕ} {v : Sender} {k : ℕ} → Wrote m next m1 k (line_of r) → v ≡ left_by u r → Shown t body n s l m1 v (at + size) k (i + 1)
           unfolding rest
-          shown-turn {m1} {v} {k} w f = record {
+          shown_turn {m1} {v} {k} w f = record {
             some = omega arith;
-            steps = let o = next-inside in omega (arith, c.steps);
-            inside = next-inside.0;
+            steps = let o = next_inside in omega (arith, c.steps);
+            inside = next_inside.0;
             whole =
                 ap (λ (p : List ℕ). whole_events (length body - (i + 1)) p) (sym after)
                 ∙ and_right (head_holds (drop at body)) (whole_events (length body - (i + 1)) (drop (at + size_of (drop at body)) body)) both;
             count = c.count ∙ ap (λ (es : List Event). i + length es) left_is ∙ omega arith;
             small = subst (λ (z : Sender). z.window ≤ 1000000) (sym (f ∙ ap (left_by u) q)) (left_small u (replied_to u (on t x)) c.small (reply_small t u x c.small));
-            room = omega (arith, c.room, line-short, w.place);
+            room = omega (arith, c.room, line_short, w.place);
             done = c.done ++ line_of r;
             wrote = then c.wrote w;
             lines =
-                c.lines ∙ ap (λ (p : List ℕ). c.done ++ p) (lines-on f)
+                c.lines ∙ ap (λ (p : List ℕ). c.done ++ p) (lines_on f)
                 ∙ sym (append_assoc c.done (line_of r) (lines_from t v (events_from (length body - (i + 1)) (drop (at + size) body))));
           }

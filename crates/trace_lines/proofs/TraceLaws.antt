@@ -14,18 +14,18 @@ use Rattle.wire.specs.Bytes.{number_at}
 use Rattle.record.specs.declared.Saved.TheVariants.{Size, Refused}
 use Rattle.record.specs.Calls.{version_holds, body_holds}
 use Rattle.panel_lines.specs.Panel.{record_part, start_holds, tree_in}
-use Rattle.panel_lines.proofs.Nested.{long_start, first-number, first-record}
+use Rattle.panel_lines.proofs.Nested.{long_start, first_number, first_record}
 use Rattle.sender.specs.declared.Event.{Event}
 use Rattle.sender.specs.declared.RepeatMode.TheVariants.{Off}
 use Rattle.sender.specs.Sender.{fresh_sender}
 use Rattle.trace_lines.specs.Trace.{trace_part, events_part, start_of, whole_in_of, events_in, events, trace_holds, refusal_line, lines_from, text_of, input_order, printed_of, room_for, trace_of}
 use Rattle.trace_lines.specs.Encoding.{events_bytes, trace_bytes, FitEvents}
-use Rattle.trace_lines.proofs.Reading.{start-over}
-use Rattle.trace_lines.proofs.Events.{whole-none, events-none}
+use Rattle.trace_lines.proofs.Reading.{start_over}
+use Rattle.trace_lines.proofs.Events.{whole_none, events_none}
 use Rattle.trace_lines.proofs.Showing.{lines_none, lines_few}
 use Rattle.trace_lines.proofs.Ways.{trace_as, room_most}
-use Rattle.trace_lines.proofs.Printing.{refusal_few, same_size, same_number, no_size, room-there}
-use Rattle.trace_lines.proofs.Encoding.{whole_back, events_back, events-there, start_back}
+use Rattle.trace_lines.proofs.Printing.{refusal_few, same_size, same_number, no_size, room_there}
+use Rattle.trace_lines.proofs.Encoding.{whole_back, events_back, events_there, start_back}
 
 -- what is printed, by the four tests
 abbrev line_by : List ℕ → Bool → Bool → Bool → Bool → List ℕ
@@ -41,13 +41,13 @@ abbrev long_by : ℕ → List ℕ → List ℕ
 long_by n record_bytes_lem = cond (leb n 16384) (cond (version_holds record_bytes_lem) (cond (body_holds record_bytes_lem) (refusal_line 25) (refusal_line 8)) (refusal_line 7)) (refusal_line 6)
 
 module _ (input : List ℕ) (l : 49157 ≤ length input) where
-  long-trace : number_at input 0 4 ≤ 16384 → trace_holds (trace_part input) ≡ false
-  long-trace m =
-      let e = sym (start-over (trace_part input) (omega (arith, length-drop (4 + number_at input 0 4) input))) in
+  long_trace : number_at input 0 4 ≤ 16384 → trace_holds (trace_part input) ≡ false
+  long_trace m =
+      let e = sym (start_over (trace_part input) (omega (arith, length-drop (4 + number_at input 0 4) input))) in
       trace_as (trace_part input) ∙ rw e
 
-  long-printed : printed_of input ≡ long_by (number_at input 0 4) (record_part input)
-  long-printed =
+  long_printed : printed_of input ≡ long_by (number_at input 0 4) (record_part input)
+  long_printed =
       printed_as input ∙ rw (long_start input (omega arith)) (by (leb (number_at input 0 4) 16384) refl)
     where
       y : Bool
@@ -58,7 +58,7 @@ module _ (input : List ℕ) (l : 49157 ≤ length input) where
 
       by : (b : Bool) → leb (number_at input 0 4) 16384 ≡ b
           → line_by (text_of input) b y z (trace_holds (trace_part input)) ≡ cond b (cond y (cond z (refusal_line 25) (refusal_line 8)) (refusal_line 7)) (refusal_line 6)
-      by true e = rw (long-trace (leb-true (number_at input 0 4) 16384 e))
+      by true e = rw (long_trace (leb-true (number_at input 0 4) 16384 e))
       by false e = refl
 
 -- the read buffer's size changes no answer
@@ -66,19 +66,19 @@ pub longer_input : (input : List ℕ) → printed_of (take 49157 input) ≡ prin
 longer_input input = by (leb 49157 (length input)) refl
   where
     long_same : 49157 ≤ length input → long_by (number_at (take 49157 input) 0 4) (record_part (take 49157 input)) ≡ long_by (number_at input 0 4) (record_part input)
-    long_same l = ap (λ (n : ℕ). long_by n (record_part (take 49157 input))) (first-number 49157 (omega arith) input) ∙ (go (leb (number_at input 0 4) 16384) refl)
+    long_same l = ap (λ (n : ℕ). long_by n (record_part (take 49157 input))) (first_number 49157 (omega arith) input) ∙ (go (leb (number_at input 0 4) 16384) refl)
       where
         lines : List ℕ → List ℕ
         lines r = cond (version_holds r) (cond (body_holds r) (refusal_line 25) (refusal_line 8)) (refusal_line 7)
 
         go : (b : Bool) → leb (number_at input 0 4) 16384 ≡ b → cond b (lines (record_part (take 49157 input))) (refusal_line 6) ≡ cond b (lines (record_part input)) (refusal_line 6)
-        go true e = ap lines (first-record 49157 (omega arith) input (leb-true (number_at input 0 4) 16384 e))
+        go true e = ap lines (first_record 49157 (omega arith) input (leb-true (number_at input 0 4) 16384 e))
         go false e = refl
 
     by : (b : Bool) → leb 49157 (length input) ≡ b → printed_of (take 49157 input) ≡ printed_of input
     by true e =
         let l = leb-true 49157 (length input) e in
-        long-printed (take 49157 input) (omega (arith, length-take-le 49157 input l)) ∙ long_same l ∙ sym (long-printed input l)
+        long_printed (take 49157 input) (omega (arith, length-take-le 49157 input l)) ∙ long_same l ∙ sym (long_printed input l)
     by false e = ap printed_of (take_all 49157 input (omega (arith, leb-false 49157 (length input) e)))
 
 -- ---- 180,191 bytes hold any lines
@@ -107,7 +107,7 @@ pub never_short : (input out : List ℕ) → 180191 ≤ length out → trace_of 
 unfolding trace_of
 never_short input out l e =
     by (start_holds input) (version_holds (record_part input)) (body_holds (record_part input)) (trace_holds (trace_part input))
-    (leb (room_for (trace_part input)) (length out)) (room-there input out l) e
+    (leb (room_for (trace_part input)) (length out)) (room_there input out l) e
   where
     by : (x y z w f : Bool) → (w ≡ true → f ≡ true)
         → cond x (cond y (cond z (cond w (cond f (Size (length (text_of input))) (Refused 9)) (Refused 25)) (Refused 8)) (Refused 7)) (Refused 6) ≡ Refused 9 → ⊥
@@ -146,31 +146,31 @@ guarded_told {A} refuse answer (t ∷ ts) = by t.holds (guarded_told refuse answ
     by false h = refl
 
 module _ (input : List ℕ) where
-  pub refused-alone : passes (input_order input) ≡ false → printed_of input ≡ refusal_line (first_of (input_order input))
+  pub refused_alone : passes (input_order input) ≡ false → printed_of input ≡ refusal_line (first_of (input_order input))
   unfolding printed_of
-  refused-alone h = guarded_told refusal_line (text_of input) (input_order input) ∙ rw h
+  refused_alone h = guarded_told refusal_line (text_of input) (input_order input) ∙ rw h
 
-  pub taken-whole : passes (input_order input) ≡ true → printed_of input ≡ text_of input
+  pub taken_whole : passes (input_order input) ≡ true → printed_of input ≡ text_of input
   unfolding printed_of
-  taken-whole h = guarded_told refusal_line (text_of input) (input_order input) ∙ rw h
+  taken_whole h = guarded_told refusal_line (text_of input) (input_order input) ∙ rw h
 
 -- ---- events that were written are read again
 module _ (es : List Event) where
   pub encoded : FitEvents es → (whole_in_of (events_bytes es) ≡ true) × (events_in (events_bytes es) ≡ es)
   encoded f = (whole_back (length (events_bytes es)) es (omega arith), events_back (length (events_bytes es)) es f (omega arith))
 
-  pub trace-encoded : FitEvents es → length (events_bytes es) ≤ 32763 → (trace_holds (trace_bytes es) ≡ true) × (events (trace_bytes es) ≡ es)
-  trace-encoded f l =
+  pub trace_encoded : FitEvents es → length (events_bytes es) ≤ 32763 → (trace_holds (trace_bytes es) ≡ true) × (events (trace_bytes es) ≡ es)
+  trace_encoded f l =
       let s = start_back es l in
-      let w : whole_in_of (events_part (trace_bytes es)) ≡ true = ap (λ (b : List ℕ). whole_in_of b) (events-there es) ∙ (encoded f).0 in
-      (trace_as (trace_bytes es) ∙ rw (s, w), ap (λ (b : List ℕ). events_in b) (events-there es) ∙ (encoded f).1)
+      let w : whole_in_of (events_part (trace_bytes es)) ≡ true = ap (λ (b : List ℕ). whole_in_of b) (events_there es) ∙ (encoded f).0 in
+      (trace_as (trace_bytes es) ∙ rw (s, w), ap (λ (b : List ℕ). events_in b) (events_there es) ∙ (encoded f).1)
 
 -- ---- "A trace of 5 bytes prints nothing": a trace whose start holds and that has no more bytes
 pub empty_trace : (input : List ℕ) → start_holds input ≡ true → version_holds (record_part input) ≡ true → body_holds (record_part input) ≡ true
     → start_of (trace_part input) ≡ true → length (trace_part input) ≡ 5 → printed_of input ≡ []
 empty_trace input x y z s e =
     let none : length (events_part (trace_part input)) ≡ 0 = omega (arith, length-drop 5 (trace_part input)) in
-    let w = whole-none (events_part (trace_part input)) none (length (events_part (trace_part input))) in
+    let w = whole_none (events_part (trace_part input)) none (length (events_part (trace_part input))) in
     let h : trace_holds (trace_part input) ≡ true = trace_as (trace_part input) ∙ rw (s, w) in
     printed_as input ∙ rw (x, y, z, h)
-    (ap (lines_from (tree_in input) (fresh_sender Off)) (events-none (events_part (trace_part input)) none (length (events_part (trace_part input)))) ∙ lines_none (tree_in input) (fresh_sender Off))
+    (ap (lines_from (tree_in input) (fresh_sender Off)) (events_none (events_part (trace_part input)) none (length (events_part (trace_part input)))) ∙ lines_none (tree_in input) (fresh_sender Off))

@@ -76,18 +76,18 @@ module _ (t : RuleTree) (bytes out : List ℕ) where
   unfolding traced_after
   bad h = let e : traced_of t bytes out ≡ Refused 25 = traced_as t bytes out ∙ rw h in (sym e, rw e)
 
-  pub traced-start : start_of bytes ≡ false → Traced t bytes out (Refused 25) out
-  traced-start h = bad (trace_as bytes ∙ rw h)
+  pub traced_start : start_of bytes ≡ false → Traced t bytes out (Refused 25) out
+  traced_start h = bad (trace_as bytes ∙ rw h)
 
   module _ (h : start_of bytes ≡ true) {r : Counted} (e : r ≡ counted_of (take (length bytes - 5) (drop 5 bytes))) where
     body_is : take (length bytes - 5) (drop 5 bytes) ≡ events_part bytes
     body_is = lent bytes 5 0
 
-    body-few : length (take (length bytes - 5) (drop 5 bytes)) ≤ 32763
-    body-few = let b = start_bounds bytes h in omega (arith, ap length body_is, length-drop 5 bytes)
+    body_few : length (take (length bytes - 5) (drop 5 bytes)) ≤ 32763
+    body_few = let b = start_bounds bytes h in omega (arith, ap length body_is, length-drop 5 bytes)
 
-    pub traced-broken : r ≡ Broken → Traced t bytes out (Refused 25) out
-    traced-broken f =
+    pub traced_broken : r ≡ Broken → Traced t bytes out (Refused 25) out
+    traced_broken f =
         let w : whole_in_of (events_part bytes) ≡ false = counted_not (events_part bytes) (e ∙ ap counted_of body_is) f in
         bad (trace_as bytes ∙ rw (h, w))
 
@@ -104,19 +104,19 @@ module _ (t : RuleTree) (bytes out : List ℕ) where
       pub tracing : grown_of t ≡ true → 11 * n ≤ length out → Tracing t (take (length bytes - 5) (drop 5 bytes)) n out
       tracing g l =
           let c = counted_told (take (length bytes - 5) (drop 5 bytes)) n e f in
-          record { grown = g; whole = c.0; count = c.1; room = l; few = body-few }
+          record { grown = g; whole = c.0; count = c.1; room = l; few = body_few }
 
-      pub traced-short : length out < 11 * n → Traced t bytes out (Refused 9) out
+      pub traced_short : length out < 11 * n → Traced t bytes out (Refused 9) out
       unfolding traced_after
-      traced-short l =
+      traced_short l =
           let q = lt-leb (room_for bytes) (length out) (omega (arith, told.1)) in
           let p : traced_of t bytes out ≡ Refused 9 = traced_as t bytes out ∙ rw (holds, q) in
           (sym p, rw p)
 
-      pub traced-taken : {m : List ℕ} {k : ℕ} → 11 * n ≤ length out
+      pub traced_taken : {m : List ℕ} {k : ℕ} → 11 * n ≤ length out
           → Wrote out 0 m k (lines_from t (fresh_sender Off) (events_in (take (length bytes - 5) (drop 5 bytes)))) → Traced t bytes out (Size k) m
       unfolding traced_after
-      traced-taken {m} {k} l w =
+      traced_taken {m} {k} l w =
           let text : lines_from t (fresh_sender Off) (events_in (take (length bytes - 5) (drop 5 bytes))) ≡ lines_over t bytes =
           ap (λ (b : List ℕ). lines_from t (fresh_sender Off) (events_in b)) body_is in
           let few = lines_few t (fresh_sender Off) (events bytes) (omega arith) in

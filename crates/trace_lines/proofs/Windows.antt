@@ -34,7 +34,7 @@ use Rattle.sender.specs.SenderCall.{on}
 use Rattle.sender.specs.Sender.{ack_of, send_admitted, replied_to, left_by}
 use Rattle.panel_lines.proofs.Decimal.{decimal_few}
 use Rattle.trace_lines.specs.Trace.{line_end, line_of}
-use Rattle.trace_lines.proofs.Lines.{refusal-count, window-count, line_taken, line_refused}
+use Rattle.trace_lines.proofs.Lines.{refusal_count, window_count, line_taken, line_refused}
 
 -- both windows of a reply are at most 1,000,000, or its number has two digits
 abbrev pub Small : Reply → Type 0
@@ -110,7 +110,7 @@ pub line_few : (r : Reply) → Small r → length (line_of r) ≤ 11
 line_few (reply.Taken h) m =
     let a = decimal_few 6 h.window (omega arith) in
     let b = end_few h.clipped in
-    omega (arith, ap length (line_taken (reply.Taken h) h refl), window-count h.window h.clipped)
+    omega (arith, ap length (line_taken (reply.Taken h) h refl), window_count h.window h.clipped)
 line_few (reply.Refused k) m =
     let a = decimal_few 1 k m in
-    omega (arith, ap length (line_refused (reply.Refused k) k refl), refusal-count k)
+    omega (arith, ap length (line_refused (reply.Refused k) k refl), refusal_count k)

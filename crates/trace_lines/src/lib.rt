@@ -1,4 +1,6 @@
 // The sender as a process: a record and a trace of events, and the lines that they are printed as.
+#![tactic(auto)]
+
 ghost use Rattle.std.specs.Prelude.{◌≡◌, ◌++◌, length, drop};
 ghost use Rattle.trace_lines.specs.Trace.{trace_of, out_after, printed_of};
 

@@ -7,7 +7,7 @@ use sender::{Draw, Event};
 use wire::inner::read::{byte_at, float_at, word_at};
 
 // How many whole events bytes are, or that they are not.
-#[derive(Drop)]
+#[derive(Clone, Copy)]
 pub enum Counted {
     Whole(usize),
     Broken,
