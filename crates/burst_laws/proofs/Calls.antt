@@ -15,8 +15,8 @@ use Rattle.sender.specs.declared.Sender.{Sender}
 use Rattle.sender.specs.Sender.{ack_of}
 use Rattle.sender.specs.SenderCall.{SenderCall}
 use Rattle.sender.specs.Burst.{Course, ahead, course_of, ends_with, flag_of}
-use Rattle.sender.proofs.AckNumbers.{stopped-for}
-use Rattle.sender.proofs.Bursts.{first_taken, first-refused}
+use Rattle.sender.proofs.AckNumbers.{stopped_for}
+use Rattle.sender.proofs.Bursts.{first_taken, first_refused}
 use Rattle.promise.specs.SenderRuns.{SenderEvent, SenderStep, after_reply, event, taken, sender_step, sender_events, sender_end}
 use Rattle.burst_laws.specs.Bursts.{ack_call, ack_calls, first_refusal, flags_of, until_refused, windows_of}
 
@@ -28,23 +28,23 @@ pub record Tied (s : Sender) (cs : List (SenderCall RuleTree)) (es : List Sender
   pub sender : c.sender ≡ sender_end s (take (length c.windows) cs)
 
 module _ (s : Sender) (c : SenderCall RuleTree) (cs : List (SenderCall RuleTree)) {o : SenderStep} (e : sender_step s c ≡ o) where
-  events-first : sender_events s (c ∷ cs) ≡ o.event ∷ sender_events o.sender cs
+  events_first : sender_events s (c ∷ cs) ≡ o.event ∷ sender_events o.sender cs
   unfolding sender_events
-  events-first = ap (λ (z : SenderStep). z.event ∷ sender_events z.sender cs) e
+  events_first = ap (λ (z : SenderStep). z.event ∷ sender_events z.sender cs) e
 
-  end-first : (n : ℕ) → sender_end s (take (suc n) (c ∷ cs)) ≡ sender_end o.sender (take n cs)
+  end_first : (n : ℕ) → sender_end s (take (suc n) (c ∷ cs)) ≡ sender_end o.sender (take n cs)
   unfolding sender_end
-  end-first n = ap (λ (z : SenderStep). sender_end z.sender (take n cs)) e
+  end_first n = ap (λ (z : SenderStep). sender_end z.sender (take n cs)) e
 
-  one-taken : {h : Held} {es : List SenderEvent} {d : Course} → o ≡ taken h → Tied h.sender cs es d
+  one_taken : {h : Held} {es : List SenderEvent} {d : Course} → o ≡ taken h → Tied h.sender cs es d
       → Tied s (c ∷ cs) (event 0 h.window h.clipped ∷ es) (ahead (h.window ∷ []) (flag_of h.clipped ∷ []) d)
   unfolding until_refused first_refusal
-  one-taken {h} {es} {d} f ih =
+  one_taken {h} {es} {d} f ih =
       record {
         windows = ap (λ (l : List ℕ). h.window ∷ l) ih.windows;
         flags = ap (λ (l : List ℕ). flag_of h.clipped ∷ l) ih.flags;
         stopped = ih.stopped;
-        sender = ih.sender ∙ sym (end-first (length d.windows) ∙ ap (λ (z : SenderStep). sender_end z.sender (take (length d.windows) cs)) f);
+        sender = ih.sender ∙ sym (end_first (length d.windows) ∙ ap (λ (z : SenderStep). sender_end z.sender (take (length d.windows) cs)) f);
       }
 
 one_refused : (s : Sender) (cs : List (SenderCall RuleTree)) (es : List SenderEvent) {k : ℕ} → k ≢ 0 → Tied s cs (event k 0 false ∷ es) (ends_with s k)
@@ -62,10 +62,10 @@ module _ (t : RuleTree) where
   unfolding sender_step
   replied s x e = ap (after_reply s) e
 
-  pub course-calls : (s : Sender) (xs : List Ack) → Tied s (ack_calls t xs) (sender_events s (ack_calls t xs)) (course_of t s xs)
+  pub course_calls : (s : Sender) (xs : List Ack) → Tied s (ack_calls t xs) (sender_events s (ack_calls t xs)) (course_of t s xs)
   unfolding course_of sender_events sender_end until_refused first_refusal after_reply
-  course-calls s [] = record { windows = refl; flags = refl; stopped = refl; sender = refl }
-  course-calls s (x ∷ xs) = go (ack_of t s x.sent x.received x.draw) refl (λ u. course-calls u xs)
+  course_calls s [] = record { windows = refl; flags = refl; stopped = refl; sender = refl }
+  course_calls s (x ∷ xs) = go (ack_of t s x.sent x.received x.draw) refl (λ u. course_calls u xs)
     where
       go : (r : Reply) → ack_of t s x.sent x.received x.draw ≡ r
           → ((u : Sender) → Tied u (ack_calls t xs) (sender_events u (ack_calls t xs)) (course_of t u xs))
@@ -73,10 +73,10 @@ module _ (t : RuleTree) where
       go (Taken h) e ih =
           let c = ack_call t x in
           let cs = ack_calls t xs in
-          subst₂ (Tied s (c ∷ cs)) (sym (events-first s c cs (replied s x e))) (sym (first_taken t s x xs refl e))
-          (one-taken s c cs (replied s x e) refl (ih h.sender))
+          subst₂ (Tied s (c ∷ cs)) (sym (events_first s c cs (replied s x e))) (sym (first_taken t s x xs refl e))
+          (one_taken s c cs (replied s x e) refl (ih h.sender))
       go (Refused k) e ih =
           let c = ack_call t x in
           let cs = ack_calls t xs in
-          subst₂ (Tied s (c ∷ cs)) (sym (events-first s c cs (replied s x e))) (sym (first-refused t s x xs refl e))
-          (one_refused s (c ∷ cs) (sender_events s cs) (stopped-for t s x.sent x.received x.draw e))
+          subst₂ (Tied s (c ∷ cs)) (sym (events_first s c cs (replied s x e))) (sym (first_refused t s x xs refl e))
+          (one_refused s (c ∷ cs) (sender_events s cs) (stopped_for t s x.sent x.received x.draw e))

@@ -19,7 +19,7 @@ use Rattle.promise.specs.Values.{Every, FitSettings, FitCall}
 use Rattle.promise.specs.Demand3.{Demand3, tree_after, plain_tree_after, calls_over}
 use Rattle.promise.proofs.Demand3.{demand_3}
 use Rattle.burst_laws.specs.Bursts.{ack_call, ack_calls, first_refusal, flags_of, plain_reactions, until_refused, windows_of, BurstHolds}
-use Rattle.burst_laws.proofs.Calls.{course-calls}
+use Rattle.burst_laws.proofs.Calls.{course_calls}
 
 -- the first n calls are those of the first n acks
 take_calls : {T : Type 0} (t : T) (n : ℕ) (xs : List Ack) → take n (ack_calls t xs) ≡ ack_calls t (take n xs)
@@ -54,7 +54,7 @@ module _ (s : Settings) (cs : List Call) (d : Demand3 s cs) (k : ℕ) (start : S
 
   holds : BurstHolds t u start xs
   holds =
-      let c = course-calls t start xs in
+      let c = course_calls t start xs in
       record {
         windows = c.windows ∙ ap (λ (es : List SenderEvent). windows_of (until_refused es)) reactions;
         flags = c.flags ∙ ap (λ (es : List SenderEvent). flags_of (until_refused es)) reactions;

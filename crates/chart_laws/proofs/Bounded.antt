@@ -9,7 +9,7 @@ use Rattle.floats.specs.Average.{average}
 use Rattle.floats.specs.Interval.{within}
 use Rattle.floats.proofs.Order.{le_nn_r, le_self, le-or-lt, le_le_trans, le_lt_trans, lt_le_trans, lt→le}
 use Rattle.floats.proofs.Zero.{0f, Some}
-use Rattle.floats.proofs.Average.{least, average-le, average-some}
+use Rattle.floats.proofs.Average.{least, average_le, average_some}
 use Rattle.quantities.specs.Time.{span}
 use Rattle.sender.specs.declared.Average.{Average}
 use Rattle.sender.specs.declared.Average.TheVariants.{Empty, Of}
@@ -104,12 +104,12 @@ module _ (end : Float) (one : T (le 1f end)) where
       record {
         bound = p;
         is = b;
-        some = average-some p a g (bound_some b).fin b.fitting b.large u.some s l r.gap;
-        least = average-le p a g (bound_some b).fin b.fitting b.large u.some s l r.gap;
+        some = average_some p a g (bound_some b).fin b.fitting b.large u.some s l r.gap;
+        least = average_le p a g (bound_some b).fin b.fitting b.large u.some s l r.gap;
       }
 
-  pub under-within : (a : Float) → Under end a → T (within 0f end a)
-  under-within a u = and_i (le 0f a) (lt a end) u.some.min (le_lt_trans a u.bound end u.least u.is.below)
+  pub under_within : (a : Float) → Under end a → T (within 0f end a)
+  under_within a u = and_i (le 0f a) (lt a end) u.some.min (le_lt_trans a u.bound end u.least u.is.below)
 
 -- ---- the same of a sender's average
 abbrev pub Kept : Float → Average → Type 0
@@ -130,7 +130,7 @@ module _ (end : Float) (one : T (le 1f end)) where
   kept_next Empty g u f w = under_first end one g f w
   kept_next (Of a) g u f w = under_next end one a.0 g u f w
 
-  pub kept-within : (a : Average) → Kept end a → T (within 0f end (value_of a))
+  pub kept_within : (a : Average) → Kept end a → T (within 0f end (value_of a))
   unfolding value_of
-  kept-within Empty u = and_i (le 0f 0f) (lt 0f end) zero_zero (lt_le_trans 0f 1f end zero_one one)
-  kept-within (Of a) u = under-within end one a.0 u
+  kept_within Empty u = and_i (le 0f 0f) (lt 0f end) zero_zero (lt_le_trans 0f 1f end zero_one one)
+  kept_within (Of a) u = under_within end one a.0 u

@@ -1,5 +1,5 @@
 -- The plain trainer's tree keeps its upper ends, whatever the trainer is asked. Assumes nothing.
-use mathlib.Core.Path.{◌≡◌, refl}
+use mathlib.Core.Path.{◌≡◌}
 use mathlib.Core.Bool.{Bool, true, false, not, ◌&&◌, cond}
 use mathlib.Core.List.{List, [], ◌∷◌}
 use Prim.Native.Nat.{ℕ, ◌+◌}
@@ -25,65 +25,65 @@ module _ (e : Point) where
   abbrev Leaves : Outcome → Type 0
   Leaves o = Has o.state
 
-  pub round-has : (s : Settings) (t : Tree) (i r : ℕ) → t.ends ≡ e → Has (begin_round s t i r)
+  pub round_has : (s : Settings) (t : Tree) (i r : ℕ) → t.ends ≡ e → Has (begin_round s t i r)
   unfolding begin_round begin_later_stage
-  round-has s t i r q =
+  round_has s t i r q =
       either Has (ltb r s.optimization_rounds_per_split) _ _ q (either Has (ltb s.rule_splits (i + 1)) _ _ q q)
 
-  chosen-has : (st : State) → Has st → (c : Choice) (then : Tree → State) → ((t : Tree) → t.ends ≡ e → Has (then t)) → Leaves (split_chosen st c then)
+  chosen_has : (st : State) → Has st → (c : Choice) (then : Tree → State) → ((t : Tree) → t.ends ≡ e → Has (then t)) → Leaves (split_chosen st c then)
   unfolding split_chosen
-  chosen-has st h nobody then k = h
-  chosen-has st h (leaf i) then k = either Leaves (ltb (length st.tree.splits) 64) _ _ (k (split st.tree i) h) h
+  chosen_has st h nobody then k = h
+  chosen_has st h (leaf i) then k = either Leaves (ltb (length st.tree.splits) 64) _ _ (k (split st.tree i) h) h
 
   module _ (s : Settings) (t : Tree) (i r : ℕ) (q : t.ends ≡ e) where
-    third-has : (xs : List ℕ) (c : Choice) → Has (answer3 (at s t i r phase3) xs c)
+    third_has : (xs : List ℕ) (c : Choice) → Has (answer3 (at s t i r phase3) xs c)
     unfolding answer3
-    third-has xs nobody = round-has s (clear_marks t) i (r + 1) q
-    third-has xs (leaf l) = either Has (eqb (get_or xs l 0) 0 && not (eqb (sum xs) 0)) _ _ (round-has s (clear_marks t) i (r + 1) q) q
+    third_has xs nobody = round_has s (clear_marks t) i (r + 1) q
+    third_has xs (leaf l) = either Has (eqb (get_or xs l 0) 0 && not (eqb (sum xs) 0)) _ _ (round_has s (clear_marks t) i (r + 1) q) q
 
     counted_has : (xs : List ℕ) (p : Phase) → Leaves (counted (at s t i r p) xs p)
     unfolding counted
     counted_has xs phase1 =
         either Leaves (counts_taken t xs) _ _
-        (chosen-has (at s t i r phase1) q (most_used xs (leaves t)) _
-        (λ u w. either Has (s.drill_down && leb (used xs) 1) (at s u i r phase2) (begin_round s u i r) w (round-has s u i r w)))
+        (chosen_has (at s t i r phase1) q (most_used xs (leaves t)) _
+        (λ u w. either Has (s.drill_down && leb (used xs) 1) (at s u i r phase2) (begin_round s u i r) w (round_has s u i r w)))
         q
     counted_has xs phase2 =
         either Leaves (counts_taken t xs) _ _
-        (either Leaves (ltb 1 (used xs)) _ _ (round-has s t i r q)
-        (chosen-has (at s t i r phase2) q (most_used xs (leaves t)) (λ u. at s u i r phase2) (λ u w. w)))
+        (either Leaves (ltb 1 (used xs)) _ _ (round_has s t i r q)
+        (chosen_has (at s t i r phase2) q (most_used xs (leaves t)) (λ u. at s u i r phase2) (λ u w. w)))
         q
-    counted_has xs phase3 = either Leaves (counts_taken t xs) _ _ (third-has xs (most_used xs (unmarked_leaves t))) q
+    counted_has xs phase3 = either Leaves (counts_taken t xs) _ _ (third_has xs (most_used xs (unmarked_leaves t))) q
     counted_has xs (phase4 l) = q
     counted_has xs (phase5 l best k kept) = q
     counted_has xs phase6 = either Leaves (counts_taken t xs) _ _ q q
     counted_has xs phase7 = q
 
-    try-has : (p : Phase) (u : Tree) → u.ends ≡ e → (l : ℕ) (best : Float) → Has (try_all (at s t i r p) u l best)
+    try_has : (p : Phase) (u : Tree) → u.ends ≡ e → (l : ℕ) (best : Float) → Has (try_all (at s t i r p) u l best)
     unfolding try_all
-    try-has p u w l best = either Has (eqb (length (candidates (at s t i r p) u l)) 0) _ _ w w
+    try_has p u w l best = either Has (eqb (length (candidates (at s t i r p) u l)) 0) _ _ w w
 
     last_has : (p : Phase) (l : ℕ) (kept : Kept) → Has (after_last (at s t i r p) l kept)
     unfolding after_last
     last_has p l nothing = q
-    last_has p l (just j y) = try-has p (set_action t l (get_or (candidates (at s t i r p) t l) j no_candidate)) q l y
+    last_has p l (just j y) = try_has p (set_action t l (get_or (candidates (at s t i r p) t l) j no_candidate)) q l y
 
-    scored-has : (x : Float) (p : Phase) → Leaves (scored (at s t i r p) x p)
+    scored_has : (x : Float) (p : Phase) → Leaves (scored (at s t i r p) x p)
     unfolding scored answer5
-    scored-has x phase1 = q
-    scored-has x phase2 = q
-    scored-has x phase3 = q
-    scored-has x (phase4 l) = try-has (phase4 l) t q l x
-    scored-has x (phase5 l best k kept) =
+    scored_has x phase1 = q
+    scored_has x phase2 = q
+    scored_has x phase3 = q
+    scored_has x (phase4 l) = try_has (phase4 l) t q l x
+    scored_has x (phase5 l best k kept) =
         either Has (ltb (k + 1) (length (candidates (at s t i r (phase5 l best k kept)) t l))) _ _ q
         (last_has (phase5 l best k kept) l (keep best k x kept))
-    scored-has x phase6 = q
-    scored-has x phase7 = q
+    scored_has x phase6 = q
+    scored_has x phase7 = q
 
   step_keeps : (st : State) (c : Call) → Has st → Leaves (step st c)
   unfolding step changed
   step_keeps st (counts xs) q = counted_has st.settings st.tree st.stage st.round q xs st.phase
-  step_keeps st (score x) q = scored-has st.settings st.tree st.stage st.round q x st.phase
+  step_keeps st (score x) q = scored_has st.settings st.tree st.stage st.round q x st.phase
   step_keeps st (reload buffer) q = either Leaves (leb (length (record_bytes st)) (length buffer)) _ _ q q
   step_keeps st (change s) q = either Leaves (settings_taken s) _ _ (either Leaves (taken st s) _ _ q q) q
 

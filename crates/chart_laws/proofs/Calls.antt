@@ -22,11 +22,11 @@ use Rattle.promise.specs.PlainTree.{Tree}
 use Rattle.promise.specs.SenderRuns.{SenderEvent, SenderStep, taken, after_reply, sender_step, sender_events, plain_start, plain_sender_events}
 use Rattle.promise.proofs.Links.{no}
 use Rattle.promise.proofs.Embed.{embed_tree, ValidTree}
-use Rattle.promise.proofs.TreeGrown.{grown-embeds}
+use Rattle.promise.proofs.TreeGrown.{grown_embeds}
 use Rattle.promise.proofs.SenderRun.{Over, embed_calls, sender_agrees}
 use Rattle.chart_laws.specs.Chart.{Times, ack_times, round_trip, all_above, ratios_after, ratios_hold, OnChart, AcksOver, GrownWith, AcksTaken, NoAckRefused}
 use Rattle.chart_laws.proofs.Quotient.{1f, quotient_one}
-use Rattle.chart_laws.proofs.Taking.{acks-taken}
+use Rattle.chart_laws.proofs.Taking.{acks_taken}
 
 -- ---- the public calls
 step_taken : (s : Sender) (r : Reply) (h : Held) → r ≡ Taken h → after_reply s r ≡ taken h
@@ -45,16 +45,16 @@ none_from (tick ∷ cs) s a = (λ z. absurd (no false z refl), none_from cs (tic
 
 pub public_stays : (ends : Point) (cs : List (SenderCall RuleTree)) → AcksOver (GrownWith ends) cs → OnChart ends (ack_times cs)
     → NoAckRefused cs (sender_events (fresh_sender Off) cs)
-public_stays ends cs g h = none_from cs (fresh_sender Off) (acks-taken ends cs g h)
+public_stays ends cs g h = none_from cs (fresh_sender Off) (acks_taken ends cs g h)
 
 -- ---- the same calls over the trees that others stand for
 module _ {A B : Type 0} (tree : A → B) where
-  pub times-over : (cs : List (SenderCall A)) → ack_times (map (over tree) cs) ≡ ack_times cs
+  pub times_over : (cs : List (SenderCall A)) → ack_times (map (over tree) cs) ≡ ack_times cs
   unfolding over
-  times-over [] = refl
-  times-over (ack t sent received draw ∷ cs) = ap (λ (ts : List Times). record { sent = sent; received = received } ∷ ts) (times-over cs)
-  times-over (send at ∷ cs) = times-over cs
-  times-over (tick ∷ cs) = times-over cs
+  times_over [] = refl
+  times_over (ack t sent received draw ∷ cs) = ap (λ (ts : List Times). record { sent = sent; received = received } ∷ ts) (times_over cs)
+  times_over (send at ∷ cs) = times_over cs
+  times_over (tick ∷ cs) = times_over cs
 
   pub none_over : (cs : List (SenderCall A)) (es : List SenderEvent) → NoAckRefused (map (over tree) cs) es → NoAckRefused cs es
   unfolding over
@@ -65,13 +65,13 @@ module _ {A B : Type 0} (tree : A → B) where
   none_over (send at ∷ cs) (e ∷ es) h = (h.0, none_over cs es h.1)
   none_over (tick ∷ cs) (e ∷ es) h = (h.0, none_over cs es h.1)
 
-  pub acks-over : (P : A → Type 0) (Q : B → Type 0) → ((t : A) → P t → Q (tree t)) → (cs : List (SenderCall A)) → AcksOver P cs
+  pub acks_over : (P : A → Type 0) (Q : B → Type 0) → ((t : A) → P t → Q (tree t)) → (cs : List (SenderCall A)) → AcksOver P cs
       → AcksOver Q (map (over tree) cs)
   unfolding over
-  acks-over P Q f [] h = tt
-  acks-over P Q f (ack t sent received draw ∷ cs) h = (f t h.0, acks-over P Q f cs h.1)
-  acks-over P Q f (send at ∷ cs) h = acks-over P Q f cs h
-  acks-over P Q f (tick ∷ cs) h = acks-over P Q f cs h
+  acks_over P Q f [] h = tt
+  acks_over P Q f (ack t sent received draw ∷ cs) h = (f t h.0, acks_over P Q f cs h.1)
+  acks_over P Q f (send at ∷ cs) h = acks_over P Q f cs h
+  acks_over P Q f (tick ∷ cs) h = acks_over P Q f cs h
 
 -- ---- the plain sender, over any valid plain trees with these ends
 pub record ValidWith (ends : Point) (t : Tree) : Type 0 where
@@ -85,15 +85,15 @@ all_valid ends (send at ∷ cs) v = (tt, all_valid ends cs v)
 all_valid ends (tick ∷ cs) v = (tt, all_valid ends cs v)
 
 embed_grown : (ends : Point) (t : Tree) → ValidWith ends t → GrownWith ends (embed_tree t)
-embed_grown ends t v = record { grown = grown-embeds t v.valid; same = v.same }
+embed_grown ends t v = record { grown = grown_embeds t v.valid; same = v.same }
 
 pub plain_stays : (ends : Point) (cs : List (SenderCall Tree)) → AcksOver (ValidWith ends) cs → OnChart ends (ack_times cs)
     → NoAckRefused cs (plain_sender_events (plain_start (fresh_sender Off)) cs)
 plain_stays ends cs v h =
     none_over embed_tree cs (plain_sender_events (plain_start (fresh_sender Off)) cs)
     (subst (NoAckRefused (embed_calls cs)) (sender_agrees (fresh_sender Off) cs (all_valid ends cs v)).0
-    (public_stays ends (embed_calls cs) (acks-over embed_tree (ValidWith ends) (GrownWith ends) (embed_grown ends) cs v)
-    (subst (OnChart ends) (sym (times-over embed_tree cs)) h)))
+    (public_stays ends (embed_calls cs) (acks_over embed_tree (ValidWith ends) (GrownWith ends) (embed_grown ends) cs v)
+    (subst (OnChart ends) (sym (times_over embed_tree cs)) h)))
 
 -- ---- a first ack's ratio is 1: an upper end of exactly 1 admits no ack
 pub end_of_one : (ends : Point) (x : Times) (xs : List Times) → T (le (ratio ends) 1f) → OnChart ends (x ∷ xs) → ⊥

@@ -13,7 +13,7 @@ use Rattle.remy.specs.declared.point.Point.{Point}
 use Rattle.remy.specs.Cube.{ack, send, ratio, least_end, point_equal, root_of, contains_of}
 use Rattle.remy.proofs.Ends.{ends_from_one, equal_ends}
 use Rattle.rule_tree.specs.declared.RuleTree.{RuleTree}
-use Rattle.rule_tree.proofs.Links.{grown-admitted}
+use Rattle.rule_tree.proofs.Links.{grown_admitted}
 use Rattle.chart_laws.specs.Chart.{shorter_of, GrownWith}
 
 -- a value below an end is below what the end equals
@@ -25,13 +25,13 @@ wider end d x q w =
 module _ (ends : Point) (t : RuleTree) (c : GrownWith ends t) where
   -- the ends are 1 or more
   pub ends-one : T (le least_end (ack ends)) × (T (le least_end (send ends)) × T (le least_end (ratio ends)))
-  ends-one = ends_from_one ends (equal_ends ends t.ends c.same (grown-admitted t c.grown))
+  ends-one = ends_from_one ends (equal_ends ends t.ends c.same (grown_admitted t c.grown))
 
   -- a point in the box of these ends is in the tree's
-  pub in-box : (p : Point) → T (within 0f (ack ends) (ack p)) → T (within 0f (send ends) (send p)) → T (within 0f (ratio ends) (ratio p))
+  pub in_box_lem : (p : Point) → T (within 0f (ack ends) (ack p)) → T (within 0f (send ends) (send p)) → T (within 0f (ratio ends) (ratio p))
       → contains_of (root_of t.ends) p ≡ true
   unfolding contains_of point_equal
-  in-box p a s r =
+  in_box_lem p a s r =
       let e = t.ends in
       let A = eq (ack ends) (ack e) in
       let S = eq (send ends) (send e) in

@@ -35,7 +35,7 @@ use Rattle.sender.specs.SenderCall.{SenderCall}
 use Rattle.sender.specs.SenderCall as call
 use Rattle.chart_laws.specs.Chart.{Times, sent_at, received_at, round_trip, all_admitted, gaps_after, gaps_hold, all_above, ratios_after, ratios_hold, OnChart, GrownWith, AcksTaken}
 use Rattle.chart_laws.proofs.Quotient.{1f}
-use Rattle.chart_laws.proofs.Taking.{acks-taken}
+use Rattle.chart_laws.proofs.Taking.{acks_taken}
 
 abbrev whole : ℕ → ℕ → Float
 whole m e = fin false m (pos e)
@@ -53,7 +53,7 @@ fresh_with ends a v h = record { grown = fresh_grown ends a v h; same = ends_the
 
 three_taken : (ends : Point) (a : Action) → valid_of a ≡ true → ends_hold ends ≡ true → (x y z : Times) → OnChart ends (x ∷ y ∷ z ∷ [])
     → AcksTaken (fresh_sender Off) (acks_at (fresh_tree ends a) x y z)
-three_taken ends a v h x y z o = let g = fresh_with ends a v h in acks-taken ends (acks_at (fresh_tree ends a) x y z) (g, (g, (g, tt))) o
+three_taken ends a v h x y z o = let g = fresh_with ends a v h in acks_taken ends (acks_at (fresh_tree ends a) x y z) (g, (g, (g, tt))) o
 
 -- ---- the usual ends: sent at 0, 1, 2 and received at 1, 3, 4; gaps of 2, 1 and of 1, 1; round trips 1, 2, 2; ratios 1, 2, 2
 pub seconds_usual : OnChart usual_ends (at (whole 0 0) (whole 1 0) ∷ at (whole 1 0) (whole 3 0) ∷ at (whole 1 1) (whole 1 2) ∷ [])
@@ -73,15 +73,15 @@ half = fin false 1 (negsuc 0)
 
 quarter_within : (end : Float) → T (le 1f end) → T (within 0f end quarter)
 unfolding le
-quarter_within end h = and_i (le 0f quarter) (lt quarter end) tt (lt_le_trans quarter 1f end quarter-one h)
+quarter_within end h = and_i (le 0f quarter) (lt quarter end) tt (lt_le_trans quarter 1f end quarter_one h)
   where
-    quarter-one : T (lt quarter 1f)
-    quarter-one = tt
+    quarter_one : T (lt quarter 1f)
+    quarter_one = tt
 
 module _ (ends : Point) (h : ends_hold ends ≡ true) (above : T (lt 1f (ratio ends))) where
-  pub quarters-any : OnChart ends (at (whole 0 0) quarter ∷ at quarter half ∷ at half (fin false 3 (negsuc 1)) ∷ [])
+  pub quarters_any : OnChart ends (at (whole 0 0) quarter ∷ at quarter half ∷ at half (fin false 3 (negsuc 1)) ∷ [])
   unfolding all_admitted gaps_hold gaps_after all_above ratios_hold ratios_after sub add neg div le lt eq
-  quarters-any =
+  quarters_any =
       let one = ends_from_one ends (ends_admitted_lem ends h) in
       let a = quarter_within (ack ends) one.0 in
       let s = quarter_within (send ends) one.1.0 in
@@ -96,9 +96,9 @@ module _ (ends : Point) (h : ends_hold ends ≡ true) (above : T (lt 1f (ratio e
         ratios = and_i R (R && (R && true)) above (and_i R (R && true) above (and_i R true above tt));
       }
 
-  pub quarters-taken : (a : Action) → valid_of a ≡ true
+  pub quarters_taken : (a : Action) → valid_of a ≡ true
       → AcksTaken (fresh_sender Off) (acks_at (fresh_tree ends a) (at (whole 0 0) quarter) (at quarter half) (at half (fin false 3 (negsuc 1))))
-  quarters-taken a v = three_taken ends a v h _ _ _ quarters-any
+  quarters_taken a v = three_taken ends a v h _ _ _ quarters_any
 
 -- ---- each hypothesis is needed
 -- the five tests of OnChart, in its order
@@ -123,7 +123,7 @@ pub record Needed (t : RuleTree) : Type 0 where
   pub ack_gap : Strays t (at (whole 0 0) (whole 1 0)) (at (whole 1 0) (whole 601 0)) (true ∷ false ∷ true ∷ true ∷ true ∷ [])
   pub ack_back : Strays t (at (whole 0 0) (whole 1 1)) (at (whole 0 0) (whole 1 0)) (true ∷ false ∷ true ∷ true ∷ true ∷ [])
   -- and between sends
-  pub send-gap :
+  pub send_gap :
       Strays t (at (whole 0 0) (whole 1 0)) (at (whole 75 3) (fin false 1201 (negsuc 0))) (true ∷ true ∷ false ∷ true ∷ true ∷ [])
   pub send_back : Strays t (at (whole 1 0) (whole 1 1)) (at (whole 0 0) (whole 1 1)) (true ∷ true ∷ false ∷ true ∷ true ∷ [])
   -- a round trip of -2 s, then one of 1 s: the ratio is -0.5
@@ -137,7 +137,7 @@ needed t g e = record {
   unread = (refl, rw g refl);
   ack_gap = (refl, rw (g, e) (_, refl, refl));
   ack_back = (refl, rw (g, e) (_, refl, refl));
-  send-gap = (refl, rw (g, e) (_, refl, refl));
+  send_gap = (refl, rw (g, e) (_, refl, refl));
   send_back = (refl, rw (g, e) (_, refl, refl));
   under = (refl, rw (g, e) (_, refl, refl));
   far = (refl, rw (g, e) (_, refl, refl));

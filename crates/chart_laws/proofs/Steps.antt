@@ -38,9 +38,9 @@ use Rattle.sender.specs.Acks.{window_now, drawn, paced, settled, ack_drawn, ack_
 use Rattle.sender.specs.Sender.{fresh_sender, ack_of, with_last_send, send_admitted, send_of, tick_of}
 use Rattle.promise.specs.SenderRuns.{after_reply}
 use Rattle.chart_laws.specs.Chart.{Times, sent_at, received_at, round_trip, shorter_of, GrownWith}
-use Rattle.chart_laws.proofs.Ends.{ends-one, in-box, shorter_above}
+use Rattle.chart_laws.proofs.Ends.{ends-one, in_box_lem, shorter_above}
 use Rattle.chart_laws.proofs.Quotient.{1f, quotient_min}
-use Rattle.chart_laws.proofs.Bounded.{Kept, kept_next, kept-within}
+use Rattle.chart_laws.proofs.Bounded.{Kept, kept_next, kept_within}
 
 -- ---- an ack whose point is in the box is taken
 abbrev known_of : Sender → Times → Sender
@@ -79,16 +79,16 @@ pub record Fresh (s : Sender) : Type 0 where
 
 -- sends and ticks change neither
 module _ (P : Sender → Type 0) (keeps : (s : Sender) (m : Moment) → P s → P (with_last_send s m)) (s : Sender) (h : P s) where
-  pub send-stays : (at : Float) → P (after_reply s (send_of s at)).sender
+  pub send_stays : (at : Float) → P (after_reply s (send_of s at)).sender
   unfolding after_reply send_admitted
-  send-stays at = go (admit_of at)
+  send_stays at = go (admit_of at)
     where
       go : (x : Admitted) → P (after_reply s (send_admitted s x)).sender
       go (read.At t) = keeps s (At t) h
       go (read.Refused k) = h
 
-  pub tick-stays : P (tick_of s).sender
-  tick-stays = keeps s Never h
+  pub tick_stays : P (tick_of s).sender
+  tick_stays = keeps s Never h
 
 pub charted_keeps : (ends : Point) (x : Times) (m : Float) (s : Sender) (at : Moment) → Charted ends x m s → Charted ends x m (with_last_send s at)
 charted_keeps ends x m s at k = record {
@@ -136,8 +136,8 @@ module _ (ends : Point) (t : RuleTree) (over : GrownWith ends t) (x : Times)
         let q : T (within 0f (ratio ends) (div binary64 (round_trip x) m)) =
         and_i (le 0f (div binary64 (round_trip x) m)) (lt (div binary64 (round_trip x) m) (ratio ends)) (quotient_min (round_trip x) m (ratio ends) trip p h) h in
         let one = ends-one ends t over in
-        let c = in-box ends t over (point_of n) (kept-within (ack ends) one.0 n.ack_ewma ka)
-        (kept-within (send ends) one.1.0 n.send_ewma ks)
+        let c = in_box_lem ends t over (point_of n) (kept_within (ack ends) one.0 n.ack_ewma ka)
+        (kept_within (send ends) one.1.0 n.send_ewma ks)
         (subst (λ (r : Rtt). T (within 0f (ratio ends) (ratio_now r))) (sym e) q) in
         let a = action_at t (point_of n) in
         record {
@@ -163,16 +163,16 @@ module _ (ends : Point) (t : RuleTree) (over : GrownWith ends t) (x : Times)
     unfolding average_next
     kept_none end a last m e k = rw (e, k) tt
 
-    first-known : (r : Rtt) (y : Float) → r ≡ Unknown → rtt_next r (span y) ≡ Known (span y) (span y)
+    first_known : (r : Rtt) (y : Float) → r ≡ Unknown → rtt_next r (span y) ≡ Known (span y) (span y)
     unfolding rtt_next
-    first-known r y e = rw e
+    first_known r y e = rw e
 
     pub first : (s : Sender) → Fresh s → T (lt (div binary64 (round_trip x) (round_trip x)) (ratio ends)) → Served ends t s x (round_trip x) draw
     first s k h =
         step s k.idle k.off
         (kept_none (ack ends) s.ack_ewma s.last_ack (received_at x) k.last k.acks)
         (kept_none (send ends) s.send_ewma s.last_ack_send (sent_at x) k.last_send_lem k.sends)
-        (round_trip x) (first-known s.rtt (round_trip x) k.trips) trip h
+        (round_trip x) (first_known s.rtt (round_trip x) k.trips) trip h
 
     -- a later one
     kept_more : (end : Float) → T (le 1f end) → (a : Average) (last : Moment) (l m : Float) → last ≡ At (moment l) → Kept end a
@@ -182,9 +182,9 @@ module _ (ends : Point) (t : RuleTree) (over : GrownWith ends t) (x : Times)
         subst (λ (z : Moment). Kept end (average_next a z (moment m))) (sym e)
         (kept_next end one a (sub binary64 m l) k (sub-fits binary64 m l) w)
 
-    shorter-known : (r : Rtt) (m y : Float) (c : TimeSpan) → r ≡ Known (span m) c → rtt_next r (span y) ≡ Known (span (shorter_of m y)) (span y)
+    shorter_known : (r : Rtt) (m y : Float) (c : TimeSpan) → r ≡ Known (span m) c → rtt_next r (span y) ≡ Known (span (shorter_of m y)) (span y)
     unfolding rtt_next
-    shorter-known r m y c e = ap (λ (z : Rtt). rtt_next z (span y)) e ∙ go (lt y m)
+    shorter_known r m y c e = ap (λ (z : Rtt). rtt_next z (span y)) e ∙ go (lt y m)
       where
         go : (b : Bool) → Known (cond b (span y) (span m)) (span y) ≡ Known (span (cond b y m)) (span y)
         go true = refl
@@ -198,4 +198,4 @@ module _ (ends : Point) (t : RuleTree) (over : GrownWith ends t) (x : Times)
         step s k.idle k.off
         (kept_more (ack ends) (ends-one ends t over).0 s.ack_ewma s.last_ack (received_at y) (received_at x) k.last k.acks a)
         (kept_more (send ends) (ends-one ends t over).1.0 s.send_ewma s.last_ack_send (sent_at y) (sent_at x) k.last_send_lem k.sends b)
-        (shorter_of m (round_trip x)) (shorter-known s.rtt m (round_trip x) k.current k.trips) (shorter_above m (round_trip x) k.above trip) h
+        (shorter_of m (round_trip x)) (shorter_known s.rtt m (round_trip x) k.current k.trips) (shorter_above m (round_trip x) k.above trip) h

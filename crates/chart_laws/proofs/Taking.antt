@@ -18,7 +18,7 @@ use Rattle.sender.specs.SenderCall.{SenderCall}
 use Rattle.sender.specs.SenderCall as call
 use Rattle.promise.specs.SenderRuns.{after_reply}
 use Rattle.chart_laws.specs.Chart.{Times, ack_times, sent_at, received_at, round_trip, all_admitted, gaps_after, gaps_hold, all_above, shorter_of, ratios_after, ratios_hold, OnChart, AcksOver, GrownWith, AcksTaken}
-use Rattle.chart_laws.proofs.Steps.{Charted, Fresh, send-stays, tick-stays, charted_keeps, fresh_keeps, fresh_starts, first, next}
+use Rattle.chart_laws.proofs.Steps.{Charted, Fresh, send_stays, tick_stays, charted_keeps, fresh_keeps, fresh_starts, first, next}
 
 module _ (ends : Point) where
   -- after an ack at y, with m the shortest round trip so far
@@ -29,8 +29,8 @@ module _ (ends : Point) where
   unfolding all_admitted gaps_after all_above ratios_after
   rest [] o y m s k a b c d e = tt
   rest (call.send at ∷ cs) o y m s k a b c d e =
-      rest cs o y m (after_reply s (send_of s at)).sender (send-stays (Charted ends y m) (charted_keeps ends y m) s k at) a b c d e
-  rest (call.tick ∷ cs) o y m s k a b c d e = rest cs o y m (tick_of s).sender (tick-stays (Charted ends y m) (charted_keeps ends y m) s k) a b c d e
+      rest cs o y m (after_reply s (send_of s at)).sender (send_stays (Charted ends y m) (charted_keeps ends y m) s k at) a b c d e
+  rest (call.tick ∷ cs) o y m s k a b c d e = rest cs o y m (tick_of s).sender (tick_stays (Charted ends y m) (charted_keeps ends y m) s k) a b c d e
   rest (call.ack t sent received draw ∷ cs) o y m s k a b c d e =
       let v : Times = record { sent = sent; received = received } in
       let r = round_trip v in
@@ -55,8 +55,8 @@ module _ (ends : Point) where
       → T (all_above (map round_trip (ack_times cs))) → T (ratios_hold (ratio ends) (map round_trip (ack_times cs))) → AcksTaken s cs
   unfolding all_admitted gaps_hold all_above ratios_hold
   all [] o s k a b c d e = tt
-  all (call.send at ∷ cs) o s k a b c d e = all cs o (after_reply s (send_of s at)).sender (send-stays Fresh fresh_keeps s k at) a b c d e
-  all (call.tick ∷ cs) o s k a b c d e = all cs o (tick_of s).sender (tick-stays Fresh fresh_keeps s k) a b c d e
+  all (call.send at ∷ cs) o s k a b c d e = all cs o (after_reply s (send_of s at)).sender (send_stays Fresh fresh_keeps s k at) a b c d e
+  all (call.tick ∷ cs) o s k a b c d e = all cs o (tick_of s).sender (tick_stays Fresh fresh_keeps s k) a b c d e
   all (call.ack t sent received draw ∷ cs) o s k a b c d e =
       let v : Times = record { sent = sent; received = received } in
       let r = round_trip v in
@@ -70,5 +70,5 @@ module _ (ends : Point) where
       (w.held, w.taken, rest cs o.1 v r w.held.sender w.charted (and_r A A' a) b c (and_r D D' d) (and_r E E' e))
 
   -- the public ack, over any grown trees with these ends
-  pub acks-taken : (cs : List (SenderCall RuleTree)) → AcksOver (GrownWith ends) cs → OnChart ends (ack_times cs) → AcksTaken (fresh_sender Off) cs
-  acks-taken cs o h = all cs o (fresh_sender Off) fresh_starts h.moments h.acks h.sends h.trips h.ratios
+  pub acks_taken : (cs : List (SenderCall RuleTree)) → AcksOver (GrownWith ends) cs → OnChart ends (ack_times cs) → AcksTaken (fresh_sender Off) cs
+  acks_taken cs o h = all cs o (fresh_sender Off) fresh_starts h.moments h.acks h.sends h.trips h.ratios

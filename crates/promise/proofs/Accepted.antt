@@ -22,13 +22,13 @@ use Rattle.trainer.specs.declared.Trainer.{Trainer}
 use Rattle.trainer.specs.Settings.{settings_hold}
 use Rattle.trainer.specs.Candidates.{candidates_of}
 use Rattle.trainer.specs.State.{none, stand, untried_in, idle, leaf_action, leaf_holds, kept_in, try_holds_of, splitting, tuning, ending, box_holds, phase_holds, accepted_of}
-use Rattle.trainer.proofs.AcceptWays.{accepted-is, phase_is}
+use Rattle.trainer.proofs.AcceptWays.{accepted_is, phase_is}
 use Rattle.promise.specs.PlainTree.{Tree, rule_at}
 use Rattle.promise.specs.PlainTrainer.{State, Phase, Kept, nothing, just, phase1, phase2, phase3, phase4, phase5, phase6, phase7, kept_number, kept_score_of}
 use Rattle.promise.proofs.Embed.{embed_tree, ValidTree}
-use Rattle.promise.proofs.TreeKeeps.{leaf-embeds, leaf-node}
-use Rattle.promise.proofs.TreeGrown.{grown-embeds}
-use Rattle.promise.proofs.Candidates.{candidates-same, candidates_few}
+use Rattle.promise.proofs.TreeKeeps.{leaf_embeds, leaf_node_lem}
+use Rattle.promise.proofs.TreeGrown.{grown_embeds}
+use Rattle.promise.proofs.Candidates.{candidates_same, candidates_few}
 use Rattle.promise.proofs.States.{embed_in, embed, Splitting, Tuning, Ending, AtLeaf, KeptHolds, ValidPhase, ValidState}
 
 -- ---- the tests of a state, one by one
@@ -37,14 +37,14 @@ unfolding untried_in to_bits
 untried_none = refl
 
 module _ (s : Settings) (t : RuleTree) (p i r : ℕ) where
-  splitting-holds : Splitting s i r → splitting (stand s t p i r) ≡ true
+  splitting_holds : Splitting s i r → splitting (stand s t p i r) ≡ true
   unfolding splitting
-  splitting-holds h =
+  splitting_holds h =
       and_both (leb 1 i) _ (le-leb 1 i h.later) (and_both (leb i s.rule_splits) _ (le-leb i s.rule_splits h.stage) (and_both (eqb r 0) _ (eq-eqb r 0 h.round) untried_none))
 
-  ending-holds : Ending s i r → ending (stand s t p i r) ≡ true
+  ending_holds : Ending s i r → ending (stand s t p i r) ≡ true
   unfolding ending
-  ending-holds h =
+  ending_holds h =
       and_both (eqb i (s.rule_splits + 1)) _ (eq-eqb i (s.rule_splits + 1) h.stage) (and_both (eqb r 0) _ (eq-eqb r 0 h.round) untried_none)
 
 tuning_holds : (x : Trainer) → Tuning x.settings x.stage x.round → tuning x ≡ true
@@ -70,32 +70,32 @@ kept_holds_lem best k (just j y) l h =
 
 -- ---- each phase
 module _ (s : Settings) (t : Tree) (v : ValidTree t) (i r : ℕ) where
-  leaf-accepted : (x : Trainer) → x.tree ≡ embed_tree t → AtLeaf t x.leaf → leaf_holds x ≡ true
-  leaf-accepted x e h =
-      leaf_holds_lem x (ap (λ (q : RuleTree). leaf_in q x.leaf) e ∙ leaf-embeds t v x.leaf ∙ h.leaf)
-      (ap (λ (q : RuleTree). (node_at_of q.nodes x.leaf).optimized) e ∙ ap (λ (y : Node). y.optimized) (leaf-node t v x.leaf h.leaf) ∙ h.unmarked)
+  leaf_accepted_lem : (x : Trainer) → x.tree ≡ embed_tree t → AtLeaf t x.leaf → leaf_holds x ≡ true
+  leaf_accepted_lem x e h =
+      leaf_holds_lem x (ap (λ (q : RuleTree). leaf_in q x.leaf) e ∙ leaf_embeds t v x.leaf ∙ h.leaf)
+      (ap (λ (q : RuleTree). (node_at_of q.nodes x.leaf).optimized) e ∙ ap (λ (y : Node). y.optimized) (leaf_node_lem t v x.leaf h.leaf) ∙ h.unmarked)
 
-  phase-accepted : (p : Phase) → ValidPhase s t i r p → phase_holds (embed_in s (embed_tree t) i r p) ≡ true
-  phase-accepted phase1 h = phase_is (embed_in s (embed_tree t) i r phase1) ∙ splitting-holds s (embed_tree t) 1 i r h
-  phase-accepted phase2 h = phase_is (embed_in s (embed_tree t) i r phase2) ∙ splitting-holds s (embed_tree t) 2 i r h
-  phase-accepted phase3 h =
+  phase_accepted_lem : (p : Phase) → ValidPhase s t i r p → phase_holds (embed_in s (embed_tree t) i r p) ≡ true
+  phase_accepted_lem phase1 h = phase_is (embed_in s (embed_tree t) i r phase1) ∙ splitting_holds s (embed_tree t) 1 i r h
+  phase_accepted_lem phase2 h = phase_is (embed_in s (embed_tree t) i r phase2) ∙ splitting_holds s (embed_tree t) 2 i r h
+  phase_accepted_lem phase3 h =
       let x = embed_in s (embed_tree t) i r phase3 in
       phase_is x ∙ and_both (tuning x) (idle x) (tuning_holds x h) untried_none
-  phase-accepted (phase4 leaf) h =
+  phase_accepted_lem (phase4 leaf) h =
       let x = embed_in s (embed_tree t) i r (phase4 leaf) in
-      phase_is x ∙ and_both (tuning x) _ (tuning_holds x h.0) (and_both (leaf_holds x) _ (leaf-accepted x refl h.1) untried_none)
-  phase-accepted (phase5 leaf best k kept) h =
+      phase_is x ∙ and_both (tuning x) _ (tuning_holds x h.0) (and_both (leaf_holds x) _ (leaf_accepted_lem x refl h.1) untried_none)
+  phase_accepted_lem (phase5 leaf best k kept) h =
       let x = embed_in s (embed_tree t) i r (phase5 leaf best k kept) in
       let a = (rule_at t leaf).action in
       let e =
-      ap (λ (y : Node). length (candidates_of s (action_in y))) (leaf-node t v leaf h.1.0.leaf) ∙ sym (ap length (candidates-same s a)) in
+      ap (λ (y : Node). length (candidates_of s (action_in y))) (leaf_node_lem t v leaf h.1.0.leaf) ∙ sym (ap length (candidates_same s a)) in
       let few = candidates_few s a in
       phase_is x
       ∙ and_both (tuning x) _ (tuning_holds x h.0)
-      (and_both (leaf_holds x) _ (leaf-accepted x refl h.1.0)
+      (and_both (leaf_holds x) _ (leaf_accepted_lem x refl h.1.0)
       (try_holds x (omega (arith, h.1.1.below)) (kept_holds_lem best k kept (omega (arith, h.1.1.below)) h.1.1.held)))
-  phase-accepted phase6 h = phase_is (embed_in s (embed_tree t) i r phase6) ∙ ending-holds s (embed_tree t) 6 i r h
-  phase-accepted phase7 h = phase_is (embed_in s (embed_tree t) i r phase7) ∙ ending-holds s (embed_tree t) 7 i r h
+  phase_accepted_lem phase6 h = phase_is (embed_in s (embed_tree t) i r phase6) ∙ ending_holds s (embed_tree t) 6 i r h
+  phase_accepted_lem phase7 h = phase_is (embed_in s (embed_tree t) i r phase7) ∙ ending_holds s (embed_tree t) 7 i r h
 
 pub settings_of : (s : Settings) (t : RuleTree) (i r : ℕ) (p : Phase) → (embed_in s t i r p).settings ≡ s
 settings_of s t i r phase1 = refl
@@ -127,8 +127,8 @@ pub accepted_embeds : (st : State) → ValidState st → accepted_of (embed st) 
 accepted_embeds st v =
     let e = settings_of st.settings (embed_tree st.tree) st.stage st.round st.phase in
     let q = tree_of st.settings (embed_tree st.tree) st.stage st.round st.phase in
-    accepted-is (embed st)
+    accepted_is (embed st)
     ∙ and_both (settings_hold (embed st).settings) _ (ap settings_hold e ∙ v.settings)
-    (and_both (grown_of (embed st).tree) _ (ap grown_of q ∙ grown-embeds st.tree v.tree)
+    (and_both (grown_of (embed st).tree) _ (ap grown_of q ∙ grown_embeds st.tree v.tree)
     (and_both (box_holds (embed st)) _ (box_embeds st v.tree v.box)
-    (phase-accepted st.settings st.tree v.tree st.stage st.round st.phase v.phase)))
+    (phase_accepted_lem st.settings st.tree v.tree st.stage st.round st.phase v.phase)))

@@ -5,7 +5,6 @@ use Prim.Native.Nat.{ℕ, ◌≤◌}
 use native.Mathlib.Omega.{arith}
 use borrow.Author.Tests.{leb-true, ltb-true}
 use lib.Dec.{leb, ltb}
-use Rattle.remy.specs.declared.point.Point.{Point}
 use Rattle.remy.specs.Cube.{point_equal}
 use Rattle.rule_tree.proofs.Plain.{PointFits, ends_same}
 use Rattle.rule_tree.proofs.Counting.{and_left, and_right}
@@ -19,8 +18,8 @@ use Rattle.trainer.proofs.Holds.{parts}
 use Rattle.promise.specs.PlainSettings.{settings_taken}
 use Rattle.promise.specs.PlainTree.{Tree}
 use Rattle.promise.specs.PlainTrainer.{State, Phase, phase1, phase2, phase3, phase4, phase5, phase6, phase7, at, become, refuse, same_ends_of, goes_on_of, taken, phase_after, changed}
-use Rattle.promise.proofs.Embed.{embed_tree, ValidTree}
-use Rattle.promise.proofs.PlainSettings.{settings-same}
+use Rattle.promise.proofs.Embed.{embed_tree}
+use Rattle.promise.proofs.PlainSettings.{settings_same}
 use Rattle.promise.proofs.Accepted.{accepted_embeds}
 use Rattle.promise.proofs.States.{embed_in, embed, answered, Tuning, ValidPhase, ValidState}
 
@@ -43,35 +42,35 @@ refused_stays st s e = rw e
 
 -- ---- which settings fit, and what the trainer becomes
 module _ (u : Settings) (t : Tree) (i r : ℕ) (s : Settings) where
-  fit-in : (p : Phase) → settings_fit (embed_in u (embed_tree t) i r p) s ≡ taken (at u t i r p) s
+  fit_in : (p : Phase) → settings_fit (embed_in u (embed_tree t) i r p) s ≡ taken (at u t i r p) s
   unfolding settings_fit phase_fits round_fits point_equal taken goes_on_of
-  fit-in phase1 = refl
-  fit-in phase2 = refl
-  fit-in phase3 = refl
-  fit-in (phase4 leaf) = refl
-  fit-in (phase5 leaf best k kept) = refl
-  fit-in phase6 = refl
-  fit-in phase7 = refl
+  fit_in phase1 = refl
+  fit_in phase2 = refl
+  fit_in phase3 = refl
+  fit_in (phase4 leaf) = refl
+  fit_in (phase5 leaf best k kept) = refl
+  fit_in phase6 = refl
+  fit_in phase7 = refl
 
-  becomes-in : (p : Phase) → changed_to (embed_in u (embed_tree t) i r p) s ≡ embed (at s t i r (phase_after p))
+  becomes_in : (p : Phase) → changed_to (embed_in u (embed_tree t) i r p) s ≡ embed (at s t i r (phase_after p))
   unfolding changed_to phase_after
-  becomes-in phase1 = refl
-  becomes-in phase2 = refl
-  becomes-in phase3 = refl
-  becomes-in (phase4 leaf) = refl
-  becomes-in (phase5 leaf best k kept) = refl
-  becomes-in phase6 = refl
-  becomes-in phase7 = refl
+  becomes_in phase1 = refl
+  becomes_in phase2 = refl
+  becomes_in phase3 = refl
+  becomes_in (phase4 leaf) = refl
+  becomes_in (phase5 leaf best k kept) = refl
+  becomes_in phase6 = refl
+  becomes_in phase7 = refl
 
 pub change_embeds : (st : State) → ValidState st → (s : Settings) → change_of (embed st) s ≡ answered (changed st s)
 change_embeds st v s =
     change_is (embed st) s (accepted_embeds st v)
     ∙ ap (λ (b : Bool). cond b (cond (settings_fit (embed st) s) (layer.taken (changed_to (embed st) s)) (layer.refuse 27 (embed st))) (layer.refuse 2 (embed st)))
-    (sym (settings-same s))
+    (sym (settings_same s))
     ∙ ap (λ (b : Bool). cond (settings_taken s) (cond b (layer.taken (changed_to (embed st) s)) (layer.refuse 27 (embed st))) (layer.refuse 2 (embed st)))
-    (fit-in st.settings st.tree st.stage st.round s st.phase)
+    (fit_in st.settings st.tree st.stage st.round s st.phase)
     ∙ ap (λ (x : Trainer). cond (settings_taken s) (cond (taken st s) (layer.taken x) (layer.refuse 27 (embed st))) (layer.refuse 2 (embed st)))
-    (becomes-in st.settings st.tree st.stage st.round s st.phase)
+    (becomes_in st.settings st.tree st.stage st.round s st.phase)
     ∙ go (settings_taken s) (taken st s)
     ∙ ap answered (sym (plain_is st s))
   where
@@ -122,16 +121,16 @@ module _ (st : State) (v : ValidState st) (s : Settings) (f : PointFits s.ends) 
   ends_stay : settings_hold s ≡ true → point_equal st.settings.ends s.ends ≡ true → st.tree.ends ≡ s.ends
   ends_stay h e = v.box ∙ ends_same st.settings.ends s.ends (subst PointFits v.box v.tree.floats) f e (parts s h).4
 
-  pub changed-valid : ValidState (changed st s).state
+  pub changed_valid : ValidState (changed st s).state
   unfolding changed
-  changed-valid = go (settings_taken s) (taken st s) refl refl
+  changed_valid = go (settings_taken s) (taken st s) refl refl
     where
       new : State
       new = at s st.tree st.stage st.round (phase_after st.phase)
 
       go : (a b : Bool) → settings_taken s ≡ a → taken st s ≡ b → ValidState (cond a (cond b (become new) (refuse 27 st)) (refuse 2 st)).state
       go true true e k =
-          let h = sym (settings-same s) ∙ e in
+          let h = sym (settings_same s) ∙ e in
           let w = taken_parts st s k in
           record {
             settings = h;

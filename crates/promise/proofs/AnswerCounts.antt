@@ -20,10 +20,10 @@ use Rattle.trainer.specs.Calls.{counts_step_of, wants_counts, answer_counts_of}
 use Rattle.promise.specs.PlainTree.{Tree, Choice, nobody, leaf, leaves, unmarked_leaves, most_used, used, sum, counts_taken, split, clear_marks}
 use Rattle.promise.specs.PlainTrainer.{State, Phase, Kept, phase1, phase2, phase3, phase4, phase5, phase6, phase7, Outcome, at, begin_round, become, refuse, split_chosen, answer1, answer2, answer3, counted}
 use Rattle.promise.proofs.Embed.{embed_tree, ValidTree}
-use Rattle.promise.proofs.TreeSteps.{split-embeds}
+use Rattle.promise.proofs.TreeSteps.{split_embeds}
 use Rattle.promise.proofs.TreeClears.{clear_embeds}
-use Rattle.promise.proofs.Counted.{sum_total, used_is, counts-embed, counts-length}
-use Rattle.promise.proofs.MostUsed.{chosen, most-used-embeds, most-used-unmarked-embeds, chosen-leaf, chosen-some}
+use Rattle.promise.proofs.Counted.{sum_total, used_is, counts_embed, counts_length}
+use Rattle.promise.proofs.MostUsed.{chosen, most_used_embeds, most_used_unmarked_embeds, chosen_leaf_lem, chosen_some}
 use Rattle.promise.proofs.Begins.{round_embeds}
 use Rattle.promise.proofs.Accepted.{accepted_embeds}
 use Rattle.promise.proofs.States.{embed_in, embed, answered, ValidPhase, ValidState}
@@ -63,11 +63,11 @@ phase2_is t xs = refl
 
 -- ---- the split of the most used leaf
 module _ (t : Tree) (v : ValidTree t) (xs : List ℕ) (n : counts_taken t xs ≡ true) (b : ℕ) (e : most_used xs (leaves t) ≡ leaf b) where
-  pub split-chosen : length t.splits < 64 → layer.split_most_used (embed_tree t) xs ≡ embed_tree (split t b)
+  pub split_chosen_lem : length t.splits < 64 → layer.split_most_used (embed_tree t) xs ≡ embed_tree (split t b)
   unfolding layer.chosen_leaf chosen
-  split-chosen r =
-      ap (λ (c : Chosen). split_at_of (embed_tree t) (layer.chosen_leaf c)) (most-used-embeds t v xs (counts-length t v xs n) ∙ ap chosen e)
-      ∙ sym (split-embeds t b v (chosen-leaf t xs b e) r)
+  split_chosen_lem r =
+      ap (λ (c : Chosen). split_at_of (embed_tree t) (layer.chosen_leaf c)) (most_used_embeds t v xs (counts_length t v xs n) ∙ ap chosen e)
+      ∙ sym (split_embeds t b v (chosen_leaf_lem t xs b e) r)
 
 -- ---- the plain trainer's definitions, likewise
 choice_is :
@@ -114,7 +114,7 @@ counts_or_4 :
     (st : State) → ValidTree st.tree → (xs : List ℕ) (a : Answered) (o : Outcome) → (counts_taken st.tree xs ≡ true → a ≡ answered o)
     → cond (counts_hold (embed_tree st.tree) xs) a (layer.refuse 4 (embed st)) ≡ answered (cond (counts_taken st.tree xs) o (refuse 4 st))
 counts_or_4 st v xs a o h =
-    ap (λ (z : Bool). cond z a (layer.refuse 4 (embed st))) (sym (counts-embed st.tree v xs)) ∙ go (counts_taken st.tree xs) refl
+    ap (λ (z : Bool). cond z a (layer.refuse 4 (embed st))) (sym (counts_embed st.tree v xs)) ∙ go (counts_taken st.tree xs) refl
   where
     go : (z : Bool) → counts_taken st.tree xs ≡ z → cond z a (layer.refuse 4 (embed st)) ≡ answered (cond z o (refuse 4 st))
     go true e = h e
@@ -134,20 +134,20 @@ split_or_20 st v xs n f then h = go (most_used xs (leaves st.tree)) refl
         ≡ answered (cond z (become (then (split st.tree b))) (refuse 20 st))
     room b e true p =
         ap layer.taken
-        (ap f (split-chosen st.tree v xs n b e (ltb-true (length st.tree.splits) 64 p)) ∙ h (split st.tree b))
+        (ap f (split_chosen_lem st.tree v xs n b e (ltb-true (length st.tree.splits) 64 p)) ∙ h (split st.tree b))
     room b e false p = refl
 
     go :
         (c : Choice) → most_used xs (leaves st.tree) ≡ c
         → cond (ltb (length st.tree.splits) 64) (layer.taken (f (layer.split_most_used (embed_tree st.tree) xs))) (layer.refuse 20 (embed st))
         ≡ answered (split_chosen st c then)
-    go nobody e = absurd (chosen-some st.tree xs v e)
+    go nobody e = absurd (chosen_some st.tree xs v e)
     go (leaf b) e = room b e (ltb (length st.tree.splits) 64) refl ∙ ap answered (sym (choice_is st b then))
 
 -- ---- phases 1, 2, 3 and 6, for counts that are taken
 module _ (s : Settings) (t : Tree) (v : ValidTree t) (i : ℕ) (xs : List ℕ) (n : counts_taken t xs ≡ true) where
-  phase1-embeds : layer.phase1 (stand s (embed_tree t) 1 i 0) xs ≡ answered (answer1 (at s t i 0 phase1) xs)
-  phase1-embeds =
+  phase1_embeds : layer.phase1 (stand s (embed_tree t) 1 i 0) xs ≡ answered (answer1 (at s t i 0 phase1) xs)
+  phase1_embeds =
       phase1_is (stand s (embed_tree t) 1 i 0) xs
       ∙ split_or_20 (at s t i 0 phase1) v xs n
       (λ q. cond (s.drill_down && leb (used_in xs) 1) (stand s q 2 i 0) (layer.begin_round s q i 0))
@@ -161,8 +161,8 @@ module _ (s : Settings) (t : Tree) (v : ValidTree t) (i : ℕ) (xs : List ℕ) (
       go u true = refl
       go u false = round_embeds s u i 0
 
-  phase2-embeds : layer.phase2 (stand s (embed_tree t) 2 i 0) xs ≡ answered (answer2 (at s t i 0 phase2) xs)
-  phase2-embeds =
+  phase2_embeds : layer.phase2 (stand s (embed_tree t) 2 i 0) xs ≡ answered (answer2 (at s t i 0 phase2) xs)
+  phase2_embeds =
       phase2_is (stand s (embed_tree t) 2 i 0) xs
       ∙ ap (λ (m : ℕ). cond (ltb 1 m) more less) (sym (used_is xs))
       ∙ go (ltb 1 (used xs))
@@ -185,13 +185,13 @@ module _ (s : Settings) (t : Tree) (v : ValidTree t) (i : ℕ) (xs : List ℕ) (
       go false = split_or_20 (at s t i 0 phase2) v xs n (λ q. stand s q 2 i 0) (λ u. at s u i 0 phase2) (λ u. refl)
 
 module _ (s : Settings) (t : Tree) (i r : ℕ) (xs : List ℕ) where
-  next-embeds : layer.next_round (stand s (embed_tree t) 3 i r) ≡ embed (begin_round s (clear_marks t) i (r + 1))
-  next-embeds = ap (λ (q : RuleTree). layer.begin_round s q i (r + 1)) (sym (clear_embeds t)) ∙ round_embeds s (clear_marks t) i (r + 1)
+  next_embeds : layer.next_round (stand s (embed_tree t) 3 i r) ≡ embed (begin_round s (clear_marks t) i (r + 1))
+  next_embeds = ap (λ (q : RuleTree). layer.begin_round s q i (r + 1)) (sym (clear_embeds t)) ∙ round_embeds s (clear_marks t) i (r + 1)
 
-  tune-embeds : (c : Choice) → layer.tune_next (stand s (embed_tree t) 3 i r) xs (chosen c) ≡ embed (answer3 (at s t i r phase3) xs c)
+  tune_embeds : (c : Choice) → layer.tune_next (stand s (embed_tree t) 3 i r) xs (chosen c) ≡ embed (answer3 (at s t i r phase3) xs c)
   unfolding layer.tune_next chosen answer3
-  tune-embeds nobody = next-embeds
-  tune-embeds (leaf b) =
+  tune_embeds nobody = next_embeds
+  tune_embeds (leaf b) =
       ap (λ (m : ℕ). cond (eqb (get_or xs b 0) 0 && not (eqb m 0)) (layer.next_round (stand s (embed_tree t) 3 i r)) (at_leaf_of s (embed_tree t) i r b)) (sym (sum_total xs))
       ∙ go (eqb (get_or xs b 0) 0 && not (eqb (sum xs) 0))
     where
@@ -199,7 +199,7 @@ module _ (s : Settings) (t : Tree) (i r : ℕ) (xs : List ℕ) where
           (z : Bool)
           → cond z (layer.next_round (stand s (embed_tree t) 3 i r)) (at_leaf_of s (embed_tree t) i r b)
           ≡ embed (cond z (begin_round s (clear_marks t) i (r + 1)) (at s t i r (phase4 b)))
-      go true = next-embeds
+      go true = next_embeds
       go false = refl
 
   phase3-embeds :
@@ -207,8 +207,8 @@ module _ (s : Settings) (t : Tree) (i r : ℕ) (xs : List ℕ) where
       → layer.phase3 (stand s (embed_tree t) 3 i r) xs ≡ answered (become (answer3 (at s t i r phase3) xs (most_used xs (unmarked_leaves t))))
   phase3-embeds v n =
       ap layer.taken
-      (ap (layer.tune_next (stand s (embed_tree t) 3 i r) xs) (most-used-unmarked-embeds t v xs (counts-length t v xs n))
-      ∙ tune-embeds (most_used xs (unmarked_leaves t)))
+      (ap (layer.tune_next (stand s (embed_tree t) 3 i r) xs) (most_used_unmarked_embeds t v xs (counts_length t v xs n))
+      ∙ tune_embeds (most_used xs (unmarked_leaves t)))
 
 -- ---- the call
 module _ (s : Settings) (t : Tree) (v : ValidTree t) (i : ℕ) (xs : List ℕ) where
@@ -217,23 +217,23 @@ module _ (s : Settings) (t : Tree) (v : ValidTree t) (i : ℕ) (xs : List ℕ) w
       → answer_counts_of (embed_in s (embed_tree t) i r p) xs ≡ answered (counted (at s t i r p) xs p)
   counts-in r phase1 a h =
       subst (λ (m : ℕ). accepted_of (stand s (embed_tree t) 1 i m) ≡ true → answer_counts_of (stand s (embed_tree t) 1 i m) xs ≡ answered (counted (at s t i m phase1) xs phase1))
-      (sym h.round) at-0 a
+      (sym h.round) at_0 a
     where
-      at-0 : accepted_of (stand s (embed_tree t) 1 i 0) ≡ true → answer_counts_of (stand s (embed_tree t) 1 i 0) xs ≡ answered (counted (at s t i 0 phase1) xs phase1)
-      at-0 a =
+      at_0 : accepted_of (stand s (embed_tree t) 1 i 0) ≡ true → answer_counts_of (stand s (embed_tree t) 1 i 0) xs ≡ answered (counted (at s t i 0 phase1) xs phase1)
+      at_0 a =
           answer-is (stand s (embed_tree t) 1 i 0) xs a
           ∙ counts_or_4 (at s t i 0 phase1) v xs (counts_step_of (stand s (embed_tree t) 1 i 0) xs) (answer1 (at s t i 0 phase1) xs)
-          (λ n. step_is (stand s (embed_tree t) 1 i 0) xs ∙ phase1-embeds s t v i xs n)
+          (λ n. step_is (stand s (embed_tree t) 1 i 0) xs ∙ phase1_embeds s t v i xs n)
           ∙ ap answered (sym (counted1_is (at s t i 0 phase1) xs))
   counts-in r phase2 a h =
       subst (λ (m : ℕ). accepted_of (stand s (embed_tree t) 2 i m) ≡ true → answer_counts_of (stand s (embed_tree t) 2 i m) xs ≡ answered (counted (at s t i m phase2) xs phase2))
-      (sym h.round) at-0 a
+      (sym h.round) at_0 a
     where
-      at-0 : accepted_of (stand s (embed_tree t) 2 i 0) ≡ true → answer_counts_of (stand s (embed_tree t) 2 i 0) xs ≡ answered (counted (at s t i 0 phase2) xs phase2)
-      at-0 a =
+      at_0 : accepted_of (stand s (embed_tree t) 2 i 0) ≡ true → answer_counts_of (stand s (embed_tree t) 2 i 0) xs ≡ answered (counted (at s t i 0 phase2) xs phase2)
+      at_0 a =
           answer-is (stand s (embed_tree t) 2 i 0) xs a
           ∙ counts_or_4 (at s t i 0 phase2) v xs (counts_step_of (stand s (embed_tree t) 2 i 0) xs) (answer2 (at s t i 0 phase2) xs)
-          (λ n. step_is (stand s (embed_tree t) 2 i 0) xs ∙ phase2-embeds s t v i xs n)
+          (λ n. step_is (stand s (embed_tree t) 2 i 0) xs ∙ phase2_embeds s t v i xs n)
           ∙ ap answered (sym (counted2_is (at s t i 0 phase2) xs))
   counts-in r phase3 a h =
       answer-is (stand s (embed_tree t) 3 i r) xs a

@@ -26,9 +26,9 @@ use Rattle.promise.specs.PlainCandidates.{improvements, no_candidate}
 use Rattle.promise.specs.PlainTree.{Tree, is_leaf_of, rule_at, set_action}
 use Rattle.promise.specs.PlainTrainer.{State, Phase, Kept, nothing, just, phase1, phase2, phase3, phase4, phase5, phase6, phase7, at, become, refuse, candidates, mark_and_go_on, try_all, keep, after_last, answer5, scored, kept_number, kept_score_of}
 use Rattle.promise.proofs.Embed.{embed_tree, ValidTree}
-use Rattle.promise.proofs.TreeSteps.{action-embeds, mark-embeds}
-use Rattle.promise.proofs.TreeKeeps.{leaf-node, action_valid}
-use Rattle.promise.proofs.Candidates.{candidates-same, candidates_few, candidate-same, candidate_valid}
+use Rattle.promise.proofs.TreeSteps.{action_embeds, mark_embeds}
+use Rattle.promise.proofs.TreeKeeps.{leaf_node_lem, action_valid}
+use Rattle.promise.proofs.Candidates.{candidates_same, candidates_few, candidate_same, candidate_valid}
 use Rattle.promise.proofs.Accepted.{accepted_embeds}
 use Rattle.promise.proofs.States.{embed_in, embed, answered, KeptHolds, ValidPhase, ValidState}
 
@@ -96,27 +96,27 @@ plain_tried_is st i best k kept = refl
 
 -- ---- from the first candidate on
 module _ (x : Trainer) (u t : Tree) (p : Phase) (v : ValidTree t) (l : is_leaf_of t x.leaf ≡ true) where
-  abbrev st : State
-  st = at x.settings u x.stage x.round p
+  abbrev held : State
+  held = at x.settings u x.stage x.round p
 
-  marked-embeds : layer.marked x (embed_tree t) ≡ embed (mark_and_go_on st t x.leaf)
-  marked-embeds = ap (λ (q : RuleTree). stand x.settings q 3 x.stage x.round) (sym (mark-embeds t x.leaf v l))
+  marked_embeds : layer.marked x (embed_tree t) ≡ embed (mark_and_go_on held t x.leaf)
+  marked_embeds = ap (λ (q : RuleTree). stand x.settings q 3 x.stage x.round) (sym (mark_embeds t x.leaf v l))
 
-  try-embeds : (best : Float) → layer.try_from x (embed_tree t) best ≡ embed (try_all st t x.leaf best)
+  try_embeds : (best : Float) → layer.try_from x (embed_tree t) best ≡ embed (try_all held t x.leaf best)
   unfolding kept_number kept_score_of
-  try-embeds best =
+  try_embeds best =
       try_is x (embed_tree t) best
-      ∙ ap (λ (y : Node). cond (eqb (length (candidates_of x.settings (action_in y))) 0) (layer.marked x (embed_tree t)) (trying x.settings (embed_tree t) x.stage x.round x.leaf best 0 none cube.zero)) (leaf-node t v x.leaf l)
+      ∙ ap (λ (y : Node). cond (eqb (length (candidates_of x.settings (action_in y))) 0) (layer.marked x (embed_tree t)) (trying x.settings (embed_tree t) x.stage x.round x.leaf best 0 none cube.zero)) (leaf_node_lem t v x.leaf l)
       ∙ ap (λ (xs : List Action). cond (eqb (length xs) 0) (layer.marked x (embed_tree t)) (trying x.settings (embed_tree t) x.stage x.round x.leaf best 0 none cube.zero))
-      (sym (candidates-same x.settings (rule_at t x.leaf).action))
-      ∙ go (eqb (length (candidates st t x.leaf)) 0)
-      ∙ ap embed (sym (plain_try_is st t x.leaf best))
+      (sym (candidates_same x.settings (rule_at t x.leaf).action))
+      ∙ go (eqb (length (candidates held t x.leaf)) 0)
+      ∙ ap embed (sym (plain_try_is held t x.leaf best))
     where
       go :
           (z : Bool)
           → cond z (layer.marked x (embed_tree t)) (trying x.settings (embed_tree t) x.stage x.round x.leaf best 0 none cube.zero)
-          ≡ embed (cond z (mark_and_go_on st t x.leaf) (at x.settings t x.stage x.round (phase5 x.leaf best 0 nothing)))
-      go true = marked-embeds
+          ≡ embed (cond z (mark_and_go_on held t x.leaf) (at x.settings t x.stage x.round (phase5 x.leaf best 0 nothing)))
+      go true = marked_embeds
       go false = refl
 
 -- ---- one kept, or none, of the candidates up to k
@@ -144,33 +144,33 @@ module _
   abbrev mine : Trainer
   mine = its s t i r leaf best k kept
 
-  action-is : leaf_action mine ≡ (rule_at t leaf).action
-  action-is = ap action_in (leaf-node t v leaf l)
+  action_is : leaf_action mine ≡ (rule_at t leaf).action
+  action_is = ap action_in (leaf_node_lem t v leaf l)
 
-  after-embeds : (m : Kept) → Among (k + 1) m → layer.after_last mine (kept_number m) (kept_score_of m) ≡ embed (after_last now leaf m)
+  after_embeds : (m : Kept) → Among (k + 1) m → layer.after_last mine (kept_number m) (kept_score_of m) ≡ embed (after_last now leaf m)
   unfolding kept_number kept_score_of
-  after-embeds nothing q =
+  after_embeds nothing q =
       last_is mine none cube.zero
-      ∙ marked-embeds mine t t (phase5 leaf best k kept) v l
+      ∙ marked_embeds mine t t (phase5 leaf best k kept) v l
       ∙ ap embed (sym (plain_last_nothing now leaf))
-  after-embeds (just j y) q =
+  after_embeds (just j y) q =
       let few = candidates_few s (rule_at t leaf).action in
       let a = get_or (improvements s (rule_at t leaf).action) j no_candidate in
       last_is mine j y
       ∙ ap (λ (z : Bool). cond z (layer.marked mine (embed_tree t)) (layer.try_from mine (with_action (embed_tree t) leaf (get_or (candidates_of s (leaf_action mine)) j theirs.no_candidate)) y))
       (ne_eqb j none (λ z. absurd (omega arith)))
-      ∙ ap (λ (c : Action). layer.try_from mine (with_action (embed_tree t) leaf (get_or (candidates_of s c) j theirs.no_candidate)) y) action-is
-      ∙ ap (λ (c : Action). layer.try_from mine (with_action (embed_tree t) leaf c) y) (candidate-same s (rule_at t leaf).action j (omega arith))
-      ∙ ap (λ (w : RuleTree). layer.try_from mine w y) (sym (action-embeds t leaf v l a))
-      ∙ try-embeds mine t (set_action t leaf a) (phase5 leaf best k kept) (action_valid t v leaf l a (candidate_valid s (rule_at t leaf).action j (omega arith) h)) l y
+      ∙ ap (λ (c : Action). layer.try_from mine (with_action (embed_tree t) leaf (get_or (candidates_of s c) j theirs.no_candidate)) y) action_is
+      ∙ ap (λ (c : Action). layer.try_from mine (with_action (embed_tree t) leaf c) y) (candidate_same s (rule_at t leaf).action j (omega arith))
+      ∙ ap (λ (w : RuleTree). layer.try_from mine w y) (sym (action_embeds t leaf v l a))
+      ∙ try_embeds mine t (set_action t leaf a) (phase5 leaf best k kept) (action_valid t v leaf l a (candidate_valid s (rule_at t leaf).action j (omega arith) h)) l y
       ∙ ap embed (sym (plain_last_just now leaf j y))
 
-  tried-embeds : (m : Kept) → Among (k + 1) m → layer.tried mine (kept_number m) (kept_score_of m) ≡ embed (answer5 now leaf best k m)
-  tried-embeds m q =
+  tried_embeds : (m : Kept) → Among (k + 1) m → layer.tried mine (kept_number m) (kept_score_of m) ≡ embed (answer5 now leaf best k m)
+  tried_embeds m q =
       tried_is mine (kept_number m) (kept_score_of m)
-      ∙ ap (λ (c : Action). cond (ltb (k + 1) (length (candidates_of s c))) (trying s (embed_tree t) i r leaf best (k + 1) (kept_number m) (kept_score_of m)) (layer.after_last mine (kept_number m) (kept_score_of m))) action-is
+      ∙ ap (λ (c : Action). cond (ltb (k + 1) (length (candidates_of s c))) (trying s (embed_tree t) i r leaf best (k + 1) (kept_number m) (kept_score_of m)) (layer.after_last mine (kept_number m) (kept_score_of m))) action_is
       ∙ ap (λ (xs : List Action). cond (ltb (k + 1) (length xs)) (trying s (embed_tree t) i r leaf best (k + 1) (kept_number m) (kept_score_of m)) (layer.after_last mine (kept_number m) (kept_score_of m)))
-      (sym (candidates-same s (rule_at t leaf).action))
+      (sym (candidates_same s (rule_at t leaf).action))
       ∙ go (ltb (k + 1) (length (candidates now t leaf)))
       ∙ ap embed (sym (plain_tried_is now leaf best k m))
     where
@@ -179,7 +179,7 @@ module _
           → cond z (trying s (embed_tree t) i r leaf best (k + 1) (kept_number m) (kept_score_of m)) (layer.after_last mine (kept_number m) (kept_score_of m))
           ≡ embed (cond z (at s t i r (phase5 leaf best (k + 1) m)) (after_last now leaf m))
       go true = refl
-      go false = after-embeds m q
+      go false = after_embeds m q
 
 -- ---- the score of candidate k
 module _
@@ -200,8 +200,8 @@ module _
           (z : Bool)
           → cond z (layer.tried (its s t i r leaf best k nothing) k x) (layer.tried (its s t i r leaf best k nothing) none cube.zero)
           ≡ embed (answer5 (at s t i r (phase5 leaf best k nothing)) leaf best k (cond z (just k x) nothing))
-      go true = tried-embeds s h t v i r leaf best k nothing l b (just k x) (omega arith)
-      go false = tried-embeds s h t v i r leaf best k nothing l b nothing (omega arith)
+      go true = tried_embeds s h t v i r leaf best k nothing l b (just k x) (omega arith)
+      go false = tried_embeds s h t v i r leaf best k nothing l b nothing (omega arith)
   keep-embeds (just j y) q =
       let few = candidates_few s (rule_at t leaf).action in
       phase5_is (its s t i r leaf best k (just j y)) x
@@ -214,8 +214,8 @@ module _
           (z : Bool)
           → cond z (layer.tried (its s t i r leaf best k (just j y)) k x) (layer.tried (its s t i r leaf best k (just j y)) j y)
           ≡ embed (answer5 (at s t i r (phase5 leaf best k (just j y))) leaf best k (cond z (just k x) (just j y)))
-      go true = tried-embeds s h t v i r leaf best k (just j y) l b (just k x) (omega arith)
-      go false = tried-embeds s h t v i r leaf best k (just j y) l b (just j y) (omega arith)
+      go true = tried_embeds s h t v i r leaf best k (just j y) l b (just k x) (omega arith)
+      go false = tried_embeds s h t v i r leaf best k (just j y) l b (just j y) (omega arith)
 
 -- ---- the call
 scored1_is : (st : State) (x : Float) → scored st x phase1 ≡ refuse 21 st
@@ -261,7 +261,7 @@ module _ (s : Settings) (g : settings_hold s ≡ true) (t : Tree) (v : ValidTree
   score-in phase3 a h = answer-is (stand s (embed_tree t) 3 i r) x a ∙ ap answered (sym (scored3_is (at s t i r phase3) x))
   score-in (phase4 leaf) a h =
       answer-is (at_leaf_of s (embed_tree t) i r leaf) x a
-      ∙ ap layer.taken (step_is (at_leaf_of s (embed_tree t) i r leaf) x ∙ try-embeds (at_leaf_of s (embed_tree t) i r leaf) t t (phase4 leaf) v h.1.leaf x)
+      ∙ ap layer.taken (step_is (at_leaf_of s (embed_tree t) i r leaf) x ∙ try_embeds (at_leaf_of s (embed_tree t) i r leaf) t t (phase4 leaf) v h.1.leaf x)
       ∙ ap answered (sym (scored4_is (at s t i r (phase4 leaf)) x leaf))
   score-in (phase5 leaf best k kept) a h =
       answer-is (its s t i r leaf best k kept) x a

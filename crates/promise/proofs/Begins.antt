@@ -52,9 +52,9 @@ start_embeds s =
     ∙ ap (λ (q : RuleTree). layer.begin_round s q 0 0) (root_embeds s.ends s.default_action)
 
 module _ (s : Settings) (h : settings_hold s ≡ true) (t : Tree) (v : ValidTree t) (b : t.ends ≡ s.ends) where
-  stage-valid : (i : ℕ) → i ≤ s.rule_splits → ValidState (begin_later_stage s t (i + 1))
+  stage_valid : (i : ℕ) → i ≤ s.rule_splits → ValidState (begin_later_stage s t (i + 1))
   unfolding begin_later_stage
-  stage-valid i l = go (ltb s.rule_splits (i + 1)) refl
+  stage_valid i l = go (ltb s.rule_splits (i + 1)) refl
     where
       go : (b : Bool) → ltb s.rule_splits (i + 1) ≡ b → ValidState (cond b (at s t (i + 1) 0 phase6) (at s t (i + 1) 0 phase1))
       go true e =
@@ -67,15 +67,15 @@ module _ (s : Settings) (h : settings_hold s ≡ true) (t : Tree) (v : ValidTree
             phase = record { later = omega arith; stage = omega (arith, ltb-false s.rule_splits (i + 1) e); round = refl };
           }
 
-  pub round-valid : (i r : ℕ) → i ≤ s.rule_splits → ValidState (begin_round s t i r)
-  round-valid i r l = subst ValidState (sym (plain_round_is s t i r)) (go (ltb r s.optimization_rounds_per_split) refl)
+  pub round_valid : (i r : ℕ) → i ≤ s.rule_splits → ValidState (begin_round s t i r)
+  round_valid i r l = subst ValidState (sym (plain_round_is s t i r)) (go (ltb r s.optimization_rounds_per_split) refl)
     where
       go : (b : Bool) → ltb r s.optimization_rounds_per_split ≡ b → ValidState (cond b (at s t i r phase3) (begin_later_stage s t (i + 1)))
       go true e = record { settings = h; tree = v; box = b; phase = record { stage = l; round = ltb-true r s.optimization_rounds_per_split e } }
-      go false e = stage-valid i l
+      go false e = stage_valid i l
 
 -- ---- the start
 pub start_valid : (s : Settings) → settings_hold s ≡ true → PointFits s.ends → ValidState (start s)
 start_valid s h f =
-    round-valid s h (root_leaf s.ends s.default_action)
+    round_valid s h (root_leaf s.ends s.default_action)
     (root_valid s.ends s.default_action (parts s h).4 f (default_valid s h)) refl 0 0 (omega arith)

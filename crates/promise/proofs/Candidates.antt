@@ -20,7 +20,7 @@ use Rattle.trainer.specs.Candidates as those
 use Rattle.trainer.specs.Axes.{multiplier_sums, increment_sums, delay_sums}
 use Rattle.trainer.proofs.Lists.{get_d_any}
 use Rattle.trainer.proofs.Product as its
-use Rattle.trainer.proofs.Holds.{and_left, and_right, parts, min-valid, max-valid}
+use Rattle.trainer.proofs.Holds.{and_left, and_right, parts, min_valid, max_valid}
 use Rattle.trainer.proofs.AcceptedFacts.{few_splits, few_rounds}
 use Rattle.trainer.proofs.CandidateLaws as laws
 use Rattle.promise.specs.PlainCandidates as plain
@@ -57,14 +57,14 @@ same_sums {A} keep sum minus xs ys e =
     (ap (plain.in_turn minus) e ∙ same_flat (λ (v : A). v ∷ (minus v ∷ [])) (λ (v : A). v ∷ minus v ∷ []) (λ v. refl) ys)
 
 module _ (s : Settings) (a : Action) where
-  same-multipliers : plain.float_sums plain.multiplier_of s a ≡ multiplier_sums s a
-  same-multipliers = same_sums _ _ _ _ _ (float_axis_lem 8 _ _ _)
+  same_multipliers : plain.float_sums plain.multiplier_of s a ≡ multiplier_sums s a
+  same_multipliers = same_sums _ _ _ _ _ (float_axis_lem 8 _ _ _)
 
-  same-increments : plain.whole_sums plain.increment_of s a ≡ increment_sums s a
-  same-increments = same_sums _ _ _ _ _ (whole_axis_lem 8 _ _ _)
+  same_increments : plain.whole_sums plain.increment_of s a ≡ increment_sums s a
+  same_increments = same_sums _ _ _ _ _ (whole_axis_lem 8 _ _ _)
 
-  same-delays : plain.float_sums plain.delay_of s a ≡ delay_sums s a
-  same-delays = same_sums _ _ _ _ _ (float_axis_lem 8 _ _ _)
+  same_delays : plain.float_sums plain.delay_of s a ≡ delay_sums s a
+  same_delays = same_sums _ _ _ _ _ (float_axis_lem 8 _ _ _)
 
   same-product :
       (ms : List Float) (is : List ℤ) (ds : List Float)
@@ -72,24 +72,24 @@ module _ (s : Settings) (a : Action) where
   same-product ms is ds = same_flat _ (its.plane is ds) (λ m. same_flat _ (its.row ds m) (λ i. refl) is) ms
 
   -- the plain trainer's candidates are the trainer's, for any settings and any action
-  pub candidates-same : improvements s a ≡ candidates_of s a
+  pub candidates_same : improvements s a ≡ candidates_of s a
   unfolding improvements
-  candidates-same =
+  candidates_same =
       same-product (plain.float_sums plain.multiplier_of s a) (plain.whole_sums plain.increment_of s a) (plain.float_sums plain.delay_of s a)
-      ∙ rw (same-multipliers, same-increments, same-delays) (sym (its.candidates_are s a))
+      ∙ rw (same_multipliers, same_increments, same_delays) (sym (its.candidates_are s a))
 
   pub candidates_few : length (improvements s a) ≤ 4096
-  candidates_few = rw candidates-same (laws.candidates_few s a)
+  candidates_few = rw candidates_same (laws.candidates_few s a)
 
   module _ (j : ℕ) (l : j < length (improvements s a)) where
     listed : j < length (candidates_of s a)
-    listed = rw candidates-same at l
+    listed = rw candidates_same at l
 
-    pub candidate-same : get_or (candidates_of s a) j those.no_candidate ≡ get_or (improvements s a) j no_candidate
-    candidate-same = get_d_any (candidates_of s a) j those.no_candidate no_candidate listed ∙ sym (ap (λ (xs : List Action). get_or xs j no_candidate) candidates-same)
+    pub candidate_same : get_or (candidates_of s a) j those.no_candidate ≡ get_or (improvements s a) j no_candidate
+    candidate_same = get_d_any (candidates_of s a) j those.no_candidate no_candidate listed ∙ sym (ap (λ (xs : List Action). get_or xs j no_candidate) candidates_same)
 
     pub candidate_valid : settings_hold s ≡ true → valid_of (get_or (improvements s a) j no_candidate) ≡ true
-    candidate_valid h = rw candidates-same (laws.candidate_valid s a j no_candidate h listed)
+    candidate_valid h = rw candidates_same (laws.candidate_valid s a j no_candidate h listed)
 
 -- ---- "more than 8 values is refused": an axis of settings that hold has no more than its first 8
 enough :
@@ -133,11 +133,11 @@ module _ (s : Settings) (h : settings_hold s ≡ true) (n : ℕ) (m : 8 ≤ n) w
       enough (λ (v : Float). le v (part s.max_action_change)) (mul binary64 t) 8 n (part s.initial_action_change) m
       (rw (float_axis_lem 9 t (part s.initial_action_change) (part s.max_action_change)) l)
 
-  pub axes-whole :
+  pub axes_whole :
       (plain.float_axis n plain.multiplier_of s ≡ plain.float_axis 8 plain.multiplier_of s)
       × ((plain.whole_axis n plain.increment_of s ≡ plain.whole_axis 8 plain.increment_of s)
       × (plain.float_axis n plain.delay_of s ≡ plain.float_axis 8 plain.delay_of s))
-  axes-whole =
+  axes_whole =
       let first = s.initial_action_change.window_increment in
       let most = s.max_action_change.window_increment in (
         float-whole plain.multiplier_of axes-few.0,
@@ -171,8 +171,8 @@ settings_facts s h =
       rounds = few_rounds s h;
       multiplier = leb-true s.action_change_multiplier 16
           (and_right (leb 2 s.action_change_multiplier) _ (and_right (leb s.optimization_rounds_per_split 1000) _ (and_right (leb s.rule_splits 64) _ numbers)));
-      least = min-valid s h;
-      most = max-valid s h;
+      least = min_valid s h;
+      most = max_valid s h;
       initial = and_left (valid_of s.initial_action_change) _ changes;
       largest = and_left (valid_of s.max_action_change) _ last;
       default = and_right (valid_of s.max_action_change) _ last;

@@ -1,7 +1,7 @@
 -- The plain side's flag is the window rule's: where the product, once cut to whole, is in the range of i32, the rule's sum is that of
 -- the cut product. Assumes nothing.
-use mathlib.Core.Path.{◌≡◌, refl, sym, ap, ◌∙◌}
-use mathlib.Core.Bool.{Bool, true, false, not, ◌&&◌, ◌||◌, cond}
+use mathlib.Core.Path.{◌≡◌, refl, ap, ◌∙◌}
+use mathlib.Core.Bool.{Bool, true, false, not, ◌&&◌, ◌||◌}
 use Prim.Native.Nat.{ℕ, zero, suc, ◌*◌, ◌/◌, ◌-◌, ◌^◌, ◌≤◌, ◌<◌, min}
 use native.Mathlib.Omega.{arith}
 use borrow.Author.Tests.{ltb-true, ltb-false, le-leb, lt-leb}
@@ -11,7 +11,7 @@ use lib.Signed.{le_z}
 use lib.Ieee.{Float, nan, inf, fin, up, down, to_signed}
 use Rattle.remy.specs.declared.action.Action.{Action}
 use Rattle.remy.specs.Action.{cut_outside, outside, rule_of, product_of}
-use Rattle.promise.specs.PlainSender.{within, whole_of, clips_at, clips}
+use Rattle.promise.specs.PlainSender.{within, clips_at, clips}
 
 -- ---- a sum outside 0..=1,000,000
 not_leb : (n c : ℕ) → not (leb n c) ≡ ltb c n

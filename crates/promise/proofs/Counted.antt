@@ -13,8 +13,8 @@ use Rattle.rule_tree.specs.Counts.{limit, used_in, counts_hold}
 use Rattle.rule_tree.proofs.Counting.{and_left, and_right, Accepted, counts_accepted, accepted_counts}
 use Rattle.promise.specs.PlainTree.{Tree, nodes, member, sum, used, parent_counted, counts_taken}
 use Rattle.promise.proofs.Links.{no, or_false_left, or_false_right, or_right}
-use Rattle.promise.proofs.Embed.{embed_tree, ValidTree, parent-below}
-use Rattle.promise.proofs.TreeKeeps.{children-is}
+use Rattle.promise.proofs.Embed.{embed_tree, ValidTree, parent_below}
+use Rattle.promise.proofs.TreeKeeps.{children_is}
 
 pub tests_same : (a b : Bool) → (a ≡ true → b ≡ true) → (b ≡ true → a ≡ true) → a ≡ b
 tests_same true b f g = sym (f refl)
@@ -84,32 +84,32 @@ module _ (t : Tree) (v : ValidTree t) (xs : List ℕ) where
   taken_accepted h =
       record {
         one_a_node = h.one_a_node;
-        none_at_a_parent = λ i l p. uncounted xs t.splits h.none_at_a_parent i (split-node i (omega (arith, h.one_a_node)) p);
+        none_at_a_parent = λ i l p. uncounted xs t.splits h.none_at_a_parent i (split_node i (omega (arith, h.one_a_node)) p);
         total_held = omega (arith, h.total_held, sum_total xs);
       }
     where
-      split-node : (i : ℕ) → i < nodes t → layer.is_leaf_of (embed_tree t).nodes i ≡ false → member i t.splits ≡ true
-      split-node i l p = go (member i t.splits) (sym (children-is t v i l) ∙ p)
+      split_node : (i : ℕ) → i < nodes t → layer.is_leaf_of (embed_tree t).nodes i ≡ false → member i t.splits ≡ true
+      split_node i l p = go (member i t.splits) (sym (children_is t v i l) ∙ p)
         where
           go : (b : Bool) → not b ≡ false → b ≡ true
           go true e = refl
           go false e = sym e
 
-  accepted-taken : Accepted (embed_tree t) xs → Taken t xs
-  accepted-taken h =
+  accepted_taken : Accepted (embed_tree t) xs → Taken t xs
+  accepted_taken h =
       record {
         one_a_node = h.one_a_node;
         none_at_a_parent =
             counted_none xs t.splits
-            (λ i m. let b = parent-below t i v m in h.none_at_a_parent i (omega (arith, h.one_a_node)) (children-is t v i b ∙ ap not m));
+            (λ i m. let b = parent_below t i v m in h.none_at_a_parent i (omega (arith, h.one_a_node)) (children_is t v i b ∙ ap not m));
         total_held = omega (arith, h.total_held, sum_total xs);
       }
 
-  pub counts-embed : counts_taken t xs ≡ counts_hold (embed_tree t) xs
-  counts-embed =
+  pub counts_embed : counts_taken t xs ≡ counts_hold (embed_tree t) xs
+  counts_embed =
       tests_same (counts_taken t xs) (counts_hold (embed_tree t) xs)
       (λ h. accepted_counts (embed_tree t) xs (taken_accepted (taken_facts t xs h)))
-      (λ h. facts_taken t xs (accepted-taken (counts_accepted (embed_tree t) xs h)))
+      (λ h. facts_taken t xs (accepted_taken (counts_accepted (embed_tree t) xs h)))
 
-  pub counts-length : counts_taken t xs ≡ true → length xs ≡ nodes t
-  counts-length h = (taken_facts t xs h).one_a_node
+  pub counts_length : counts_taken t xs ≡ true → length xs ≡ nodes t
+  counts_length h = (taken_facts t xs h).one_a_node

@@ -21,38 +21,38 @@ use Rattle.promise.proofs.Begins.{start_valid}
 use Rattle.promise.proofs.Questions.{question_embeds}
 use Rattle.promise.proofs.Records.{record_embeds}
 use Rattle.promise.proofs.Fitting.{every_take, point-fits, start_fits}
-use Rattle.promise.proofs.Runs.{events_embed, end_embeds, end_valid, starts-taken, starts-alike}
-use Rattle.promise.proofs.Ways.{tree_parted, tree_same, way-events, way-left, way-ack, way-unmoved, way-send, way-tick}
+use Rattle.promise.proofs.Runs.{events_embed, end_embeds, end_valid, starts_taken, starts_alike}
+use Rattle.promise.proofs.Ways.{tree_parted, tree_same, way_events, way_left, way_ack, way_unmoved, way_send, way_tick}
 
 module _ (s : Settings) (h : settings_hold s ≡ true) (f : FitSettings s) (cs : List Call) (c : Every FitCall cs) where
-  ends-alike : (ds : List Call) → Every FitCall ds → end_of (start_of s).trainer ds ≡ embed (plain_end_of (start s) ds)
-  ends-alike ds d = ap (λ (t : Trainer). end_of t ds) (starts-alike s h) ∙ end_embeds (start s) ds (start_valid s h (point-fits f.ends)) (start_fits s h f) d
+  ends_alike : (ds : List Call) → Every FitCall ds → end_of (start_of s).trainer ds ≡ embed (plain_end_of (start s) ds)
+  ends_alike ds d = ap (λ (t : Trainer). end_of t ds) (starts_alike s h) ∙ end_embeds (start s) ds (start_valid s h (point-fits f.ends)) (start_fits s h f) d
 
   -- each tree on the way is the one that the plain trainer's stands for
-  pub way-valid : (k : ℕ) → ValidTree (plain_tree_after s cs k)
-  way-valid k = (end_valid (start s) (take k cs) (start_valid s h (point-fits f.ends)) (every_take FitCall k cs c)).tree
+  pub way_valid : (k : ℕ) → ValidTree (plain_tree_after s cs k)
+  way_valid k = (end_valid (start s) (take k cs) (start_valid s h (point-fits f.ends)) (every_take FitCall k cs c)).tree
 
-  pub way-alike : (k : ℕ) → tree_after s cs k ≡ embed_tree (plain_tree_after s cs k)
-  way-alike k =
+  pub way_alike : (k : ℕ) → tree_after s cs k ≡ embed_tree (plain_tree_after s cs k)
+  way_alike k =
       let st = plain_end_of (start s) (take k cs) in
-      ap (λ (t : Trainer). t.tree) (ends-alike (take k cs) (every_take FitCall k cs c))
+      ap (λ (t : Trainer). t.tree) (ends_alike (take k cs) (every_take FitCall k cs c))
       ∙ tree_of st.settings (embed_tree st.tree) st.stage st.round st.phase
 
 pub demand_3 : (s : Settings) → settings_hold s ≡ true → FitSettings s → (cs : List Call) → Every FitCall cs → Demand3 s cs
 demand_3 s h f cs c =
-    let alike = way-alike s h f cs c in
-    let valid = way-valid s h f cs c in
+    let alike = way_alike s h f cs c in
+    let valid = way_valid s h f cs c in
     record {
-      starts = starts-taken s h;
-      asks = ap question_of (starts-alike s h) ∙ question_embeds (start s) (start_valid s h (point-fits f.ends));
-      events = ap (λ (t : Trainer). events_of t cs) (starts-alike s h) ∙ events_embed (start s) cs (start_valid s h (point-fits f.ends)) (start_fits s h f) c;
-      final = ap record_of (ends-alike s h f cs c cs c) ∙ record_embeds (plain_end_of (start s) cs) (end_valid (start s) cs (start_valid s h (point-fits f.ends)) c);
+      starts = starts_taken s h;
+      asks = ap question_of (starts_alike s h) ∙ question_embeds (start s) (start_valid s h (point-fits f.ends));
+      events = ap (λ (t : Trainer). events_of t cs) (starts_alike s h) ∙ events_embed (start s) cs (start_valid s h (point-fits f.ends)) (start_fits s h f) c;
+      final = ap record_of (ends_alike s h f cs c cs c) ∙ record_embeds (plain_end_of (start s) cs) (end_valid (start s) cs (start_valid s h (point-fits f.ends)) c);
       trees = λ k p. subst (λ (t : RuleTree). Parted t p) (sym (alike k)) (tree_parted (plain_tree_after s cs k) (valid k) p);
       same = λ k. subst (λ (t : RuleTree). SameTree t (plain_tree_after s cs k)) (sym (alike k)) (tree_same (plain_tree_after s cs k) (valid k));
-      senders = way-events (tree_after s cs) (plain_tree_after s cs) alike valid;
-      left = way-left (tree_after s cs) (plain_tree_after s cs) alike valid;
-      acks = way-ack (tree_after s cs) (plain_tree_after s cs) alike valid;
-      unmoved = way-unmoved (tree_after s cs) (plain_tree_after s cs) alike valid;
-      sends = way-send (tree_after s cs) (plain_tree_after s cs) alike valid;
-      ticks = way-tick (tree_after s cs) (plain_tree_after s cs) alike valid;
+      senders = way_events (tree_after s cs) (plain_tree_after s cs) alike valid;
+      left = way_left (tree_after s cs) (plain_tree_after s cs) alike valid;
+      acks = way_ack (tree_after s cs) (plain_tree_after s cs) alike valid;
+      unmoved = way_unmoved (tree_after s cs) (plain_tree_after s cs) alike valid;
+      sends = way_send (tree_after s cs) (plain_tree_after s cs) alike valid;
+      ticks = way_tick (tree_after s cs) (plain_tree_after s cs) alike valid;
     }

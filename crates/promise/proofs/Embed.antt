@@ -50,31 +50,31 @@ module _ (t : Tree) (i : ℕ) where
   pub leaf_below : is_leaf_of t i ≡ true → i < nodes t
   leaf_below h = ltb-true i (nodes t) (and_left (ltb i (nodes t)) (not (member i t.splits)) h)
 
-  pub leaf-unsplit : is_leaf_of t i ≡ true → member i t.splits ≡ false
-  leaf-unsplit h = not-true (member i t.splits) (and_right (ltb i (nodes t)) (not (member i t.splits)) h)
+  pub leaf_unsplit : is_leaf_of t i ≡ true → member i t.splits ≡ false
+  leaf_unsplit h = not-true (member i t.splits) (and_right (ltb i (nodes t)) (not (member i t.splits)) h)
 
   pub leaf_from : i < nodes t → member i t.splits ≡ false → is_leaf_of t i ≡ true
   leaf_from l m = rw (lt-ltb i (nodes t) l, m)
 
-  pub parent-below : ValidTree t → member i t.splits ≡ true → i < nodes t
-  parent-below v h =
+  pub parent_below : ValidTree t → member i t.splits ≡ true → i < nodes t
+  parent_below v h =
       let o = link_owner 0 t.splits i h in
       omega (arith, o.is, o.below, v.grew o.at o.below)
 
   -- ---- nodes
-  pub node-used : i < nodes t → node_of t i ≡ node_with (rule_at t i) (link 0 t.splits i)
+  pub node_used : i < nodes t → node_of t i ≡ node_with (rule_at t i) (link 0 t.splits i)
   unfolding node_of
-  node-used l = rw (lt-ltb i (nodes t) l)
+  node_used l = rw (lt-ltb i (nodes t) l)
 
-  pub node-leaf : i < nodes t → member i t.splits ≡ false → node_of t i ≡ leaf_node (rule_at t i)
-  node-leaf l m = node-used l ∙ ap (node_with (rule_at t i)) (link_leaf 0 t.splits i m)
+  pub node_leaf : i < nodes t → member i t.splits ≡ false → node_of t i ≡ leaf_node (rule_at t i)
+  node_leaf l m = node_used l ∙ ap (node_with (rule_at t i)) (link_leaf 0 t.splits i m)
 
-  pub node-blank : nodes t ≤ i → node_of t i ≡ blank_node
+  pub node_blank : nodes t ≤ i → node_of t i ≡ blank_node
   unfolding node_of
-  node-blank l = rw (le-ltb i (nodes t) l)
+  node_blank l = rw (le-ltb i (nodes t) l)
 
-  pub embed-at : i < 513 → node_at_of (embed_tree t).nodes i ≡ node_of t i
-  embed-at l = get_d_tabulate 513 i (node_of t) no_node l
+  pub embed_at : i < 513 → node_at_of (embed_tree t).nodes i ≡ node_of t i
+  embed_at l = get_d_tabulate 513 i (node_of t) no_node l
 
 pub embed_length : (t : Tree) → length (embed_tree t).nodes ≡ 513
 embed_length t = length_tabulate 513 (node_of t)

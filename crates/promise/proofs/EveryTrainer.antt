@@ -34,10 +34,10 @@ use Rattle.promise.proofs.Records.{record_embeds}
 use Rattle.promise.specs.Values.{Every, FitSettings, FitCall}
 use Rattle.promise.specs.Demand3.{shown_as, events_of, end_of, plain_events, plain_end_of}
 use Rattle.promise.proofs.Fitting.{FitState, point-fits, settings_floats, start_fits, step_fits}
-use Rattle.promise.proofs.Reload.{record-length, save_embeds, load-embeds}
+use Rattle.promise.proofs.Reload.{record_length, save_embeds, load_embeds}
 use Rattle.promise.proofs.Runs.{events_embed, end_embeds, end_valid}
 use Rattle.promise.proofs.UnembedTree.{nodes_count}
-use Rattle.promise.proofs.Unembed.{TrainerFits, plain_of, accepted-grown, plain-embeds, plain-valid, plain_fits}
+use Rattle.promise.proofs.Unembed.{TrainerFits, plain_of, accepted_grown, plain_embeds, plain_valid, plain_fits}
 
 -- ---- the trainer that a valid state stands for is of its types
 pub embed_fits : (st : State) → FitState st → TrainerFits (embed st)
@@ -53,11 +53,11 @@ embed_fits st f =
 
 -- ---- the start
 module _ (s : Settings) (h : settings_hold s ≡ true) where
-  pub start-accepted : FitSettings s → accepted_of (started s) ≡ true
-  start-accepted f = ap accepted_of (sym (start_embeds s)) ∙ accepted_embeds (start s) (start_valid s h (point-fits f.ends))
+  pub start_accepted : FitSettings s → accepted_of (started s) ≡ true
+  start_accepted f = ap accepted_of (sym (start_embeds s)) ∙ accepted_embeds (start s) (start_valid s h (point-fits f.ends))
 
-  pub start-typed : FitSettings s → TrainerFits (started s)
-  start-typed f = subst TrainerFits (start_embeds s) (embed_fits (start s) (start_fits s h f))
+  pub start_typed : FitSettings s → TrainerFits (started s)
+  start_typed f = subst TrainerFits (start_embeds s) (embed_fits (start s) (start_fits s h f))
 
 buffer_is : (t : Trainer) (buf : List ℕ) (n : ℕ) → buffer_after t buf (Size n) ≡ record_of t ++ drop n buf
 unfolding buffer_after
@@ -66,10 +66,10 @@ buffer_is t buf n = refl
 -- ---- the calls
 module _ (t : Trainer) (a : accepted_of t ≡ true) (f : TrainerFits t) where
   back : t ≡ embed (plain_of t)
-  back = sym (plain-embeds t a f)
+  back = sym (plain_embeds t a f)
 
   valid : ValidState (plain_of t)
-  valid = plain-valid t a f
+  valid = plain_valid t a f
 
   fitting : FitState (plain_of t)
   fitting = plain_fits t a f
@@ -78,82 +78,82 @@ module _ (t : Trainer) (a : accepted_of t ≡ true) (f : TrainerFits t) where
   unfolding step
   counts_step xs = ap (λ (u : Trainer). answer_counts_of u xs) back ∙ answer_counts_embeds (plain_of t) valid xs
 
-  pub score-step : (x : Float) → answer_score_of t x ≡ answered (step (plain_of t) (score x))
+  pub score_step_lem : (x : Float) → answer_score_of t x ≡ answered (step (plain_of t) (score x))
   unfolding step
-  score-step x = ap (λ (u : Trainer). answer_score_of u x) back ∙ answer_score_embeds (plain_of t) valid x
+  score_step_lem x = ap (λ (u : Trainer). answer_score_of u x) back ∙ answer_score_embeds (plain_of t) valid x
 
-  pub change-step : (s : Settings) → change_of t s ≡ answered (step (plain_of t) (change s))
+  pub change_step : (s : Settings) → change_of t s ≡ answered (step (plain_of t) (change s))
   unfolding step
-  change-step s = ap (λ (u : Trainer). change_of u s) back ∙ change_embeds (plain_of t) valid s
+  change_step s = ap (λ (u : Trainer). change_of u s) back ∙ change_embeds (plain_of t) valid s
 
-  pub question-asked : question_of t ≡ shown_as (question (plain_of t))
-  question-asked = ap question_of back ∙ question_embeds (plain_of t) valid
+  pub question_asked : question_of t ≡ shown_as (question (plain_of t))
+  question_asked = ap question_of back ∙ question_embeds (plain_of t) valid
 
-  pub record-written : record_of t ≡ record_bytes (plain_of t)
-  record-written = ap record_of back ∙ record_embeds (plain_of t) valid
+  pub record_written : record_of t ≡ record_bytes (plain_of t)
+  record_written = ap record_of back ∙ record_embeds (plain_of t) valid
 
   -- ---- the record
-  pub load-back : load_of (record_of t) ≡ taken t
-  load-back = ap load_of record-written ∙ load-embeds (plain_of t) valid fitting ∙ ap taken (plain-embeds t a f)
+  pub load_back : load_of (record_of t) ≡ taken t
+  load_back = ap load_of record_written ∙ load_embeds (plain_of t) valid fitting ∙ ap taken (plain_embeds t a f)
 
-  pub record-size : length (record_of t) ≡ 196 + 170 * t.tree.splits
-  record-size =
-      ap length record-written ∙ record-length (plain_of t) valid fitting
-      ∙ (let e = nodes_count t.tree (accepted-grown t a) in omega arith)
+  pub record_size : length (record_of t) ≡ 196 + 170 * t.tree.splits
+  record_size =
+      ap length record_written ∙ record_length (plain_of t) valid fitting
+      ∙ (let e = nodes_count t.tree (accepted_grown t a) in omega arith)
 
-  pub save-size : (buf : List ℕ) → save_of t buf ≡ cond (leb (length (record_of t)) (length buf)) (Size (length (record_of t))) (Refused 9)
-  save-size buf =
+  pub save_size : (buf : List ℕ) → save_of t buf ≡ cond (leb (length (record_of t)) (length buf)) (Size (length (record_of t))) (Refused 9)
+  save_size buf =
       ap (λ (u : Trainer). save_of u buf) back ∙ save_embeds (plain_of t) valid buf
-      ∙ ap (λ (bs : List ℕ). cond (leb (length bs) (length buf)) (Size (length bs)) (Refused 9)) (sym record-written)
+      ∙ ap (λ (bs : List ℕ). cond (leb (length bs) (length buf)) (Size (length bs)) (Refused 9)) (sym record_written)
 
   -- a save into a buffer that is long enough, then a load of exactly the bytes written
-  pub saved-loads :
+  pub saved_loads :
       (buf : List ℕ) → length (record_of t) ≤ length buf → load_of (take (length (record_of t)) (buffer_after t buf (save_of t buf))) ≡ taken t
-  saved-loads buf l =
+  saved_loads buf l =
       let n = length (record_of t) in
       ap (λ (w : Saved). load_of (take n (buffer_after t buf w)))
-      (save-size buf ∙ ap (λ (z : Bool). cond z (Size n) (Refused 9)) (le-leb n (length buf) l))
+      (save_size buf ∙ ap (λ (z : Bool). cond z (Size n) (Refused 9)) (le-leb n (length buf) l))
       ∙ ap (λ (bs : List ℕ). load_of (take n bs)) (buffer_is t buf n)
       ∙ ap load_of (take_at (record_of t) (drop n buf) n refl)
-      ∙ load-back
+      ∙ load_back
 
   -- ---- what a call leaves is accepted
   pub counts_accepted : (xs : List ℕ) → accepted_of (answer_counts_of t xs).trainer ≡ true
   unfolding step
   counts_accepted xs = ap (λ (r : Answered). accepted_of r.trainer) (counts_step xs) ∙ accepted_embeds _ (counted_valid (plain_of t) valid xs)
 
-  pub score-accepted : (x : Float) → accepted_of (answer_score_of t x).trainer ≡ true
+  pub score_accepted : (x : Float) → accepted_of (answer_score_of t x).trainer ≡ true
   unfolding step
-  score-accepted x = ap (λ (r : Answered). accepted_of r.trainer) (score-step x) ∙ accepted_embeds _ (scored_valid (plain_of t) valid x)
+  score_accepted x = ap (λ (r : Answered). accepted_of r.trainer) (score_step_lem x) ∙ accepted_embeds _ (scored_valid (plain_of t) valid x)
 
-  pub change-accepted : (s : Settings) → FitSettings s → accepted_of (change_of t s).trainer ≡ true
-  change-accepted s h = ap (λ (r : Answered). accepted_of r.trainer) (change-step s) ∙ accepted_embeds _ (step_valid (plain_of t) valid (change s) h)
+  pub change_accepted : (s : Settings) → FitSettings s → accepted_of (change_of t s).trainer ≡ true
+  change_accepted s h = ap (λ (r : Answered). accepted_of r.trainer) (change_step s) ∙ accepted_embeds _ (step_valid (plain_of t) valid (change s) h)
 
   -- and of its types
-  pub counts-typed : (xs : List ℕ) → TrainerFits (answer_counts_of t xs).trainer
-  counts-typed xs =
+  pub counts_typed : (xs : List ℕ) → TrainerFits (answer_counts_of t xs).trainer
+  counts_typed xs =
       subst (λ (r : Answered). TrainerFits r.trainer) (sym (counts_step xs))
       (embed_fits (step (plain_of t) (counts xs)).state (step_fits (plain_of t) valid fitting (counts xs) tt))
 
-  pub score-typed : (x : Float) → T (fits binary64 x) → TrainerFits (answer_score_of t x).trainer
-  score-typed x h =
-      subst (λ (r : Answered). TrainerFits r.trainer) (sym (score-step x))
+  pub score_typed : (x : Float) → T (fits binary64 x) → TrainerFits (answer_score_of t x).trainer
+  score_typed x h =
+      subst (λ (r : Answered). TrainerFits r.trainer) (sym (score_step_lem x))
       (embed_fits (step (plain_of t) (score x)).state (step_fits (plain_of t) valid fitting (score x) h))
 
-  pub change-typed : (s : Settings) → FitSettings s → TrainerFits (change_of t s).trainer
-  change-typed s h =
-      subst (λ (r : Answered). TrainerFits r.trainer) (sym (change-step s))
+  pub change_typed : (s : Settings) → FitSettings s → TrainerFits (change_of t s).trainer
+  change_typed s h =
+      subst (λ (r : Answered). TrainerFits r.trainer) (sym (change_step s))
       (embed_fits (step (plain_of t) (change s)).state (step_fits (plain_of t) valid fitting (change s) h))
 
   -- ---- lists of calls
-  pub run-steps : (cs : List Call) → Every FitCall cs → events_of t cs ≡ plain_events (plain_of t) cs
-  run-steps cs h = ap (λ (u : Trainer). events_of u cs) back ∙ events_embed (plain_of t) cs valid fitting h
+  pub run_steps : (cs : List Call) → Every FitCall cs → events_of t cs ≡ plain_events (plain_of t) cs
+  run_steps cs h = ap (λ (u : Trainer). events_of u cs) back ∙ events_embed (plain_of t) cs valid fitting h
 
-  end-steps : (cs : List Call) → Every FitCall cs → end_of t cs ≡ embed (plain_end_of (plain_of t) cs)
-  end-steps cs h = ap (λ (u : Trainer). end_of u cs) back ∙ end_embeds (plain_of t) cs valid fitting h
+  end_steps : (cs : List Call) → Every FitCall cs → end_of t cs ≡ embed (plain_end_of (plain_of t) cs)
+  end_steps cs h = ap (λ (u : Trainer). end_of u cs) back ∙ end_embeds (plain_of t) cs valid fitting h
 
-  pub end-record : (cs : List Call) → Every FitCall cs → record_of (end_of t cs) ≡ record_bytes (plain_end_of (plain_of t) cs)
-  end-record cs h = ap record_of (end-steps cs h) ∙ record_embeds (plain_end_of (plain_of t) cs) (end_valid (plain_of t) cs valid h)
+  pub end_record : (cs : List Call) → Every FitCall cs → record_of (end_of t cs) ≡ record_bytes (plain_end_of (plain_of t) cs)
+  end_record cs h = ap record_of (end_steps cs h) ∙ record_embeds (plain_end_of (plain_of t) cs) (end_valid (plain_of t) cs valid h)
 
-  pub end-accepted : (cs : List Call) → Every FitCall cs → accepted_of (end_of t cs) ≡ true
-  end-accepted cs h = ap accepted_of (end-steps cs h) ∙ accepted_embeds (plain_end_of (plain_of t) cs) (end_valid (plain_of t) cs valid h)
+  pub end_accepted : (cs : List Call) → Every FitCall cs → accepted_of (end_of t cs) ≡ true
+  end_accepted cs h = ap accepted_of (end_steps cs h) ∙ accepted_embeds (plain_end_of (plain_of t) cs) (end_valid (plain_of t) cs valid h)

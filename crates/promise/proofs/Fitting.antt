@@ -29,7 +29,7 @@ use Rattle.promise.proofs.Begins.{start_embeds, start_valid}
 use Rattle.promise.proofs.AnswerCounts.{answer_counts_embeds}
 use Rattle.promise.proofs.AnswerScore.{answer_score_embeds}
 use Rattle.promise.proofs.AnswerChange.{refused_stays, change_embeds}
-use Rattle.promise.proofs.PlainSettings.{settings-same}
+use Rattle.promise.proofs.PlainSettings.{settings_same}
 use Rattle.promise.proofs.StepsKeep.{step_valid}
 
 pub every_take : {A : Type 0} (P : A → Type 0) (k : ℕ) (xs : List A) → Every P xs → Every P (take k xs)
@@ -84,22 +84,22 @@ start_fits s h f =
 
 module _ (st : State) (v : ValidState st) (f : FitState st) where
   -- by what the trainer's call answers
-  answer-fits : (t : Trainer) (u : State) → t ≡ embed u → ValidState u → (accepted_of t ≡ true → TrainerFits t) → FitState u
-  answer-fits t u e w k = subst TrainerFits e (k (ap accepted_of e ∙ accepted_embeds u w))
+  answer_fits : (t : Trainer) (u : State) → t ≡ embed u → ValidState u → (accepted_of t ≡ true → TrainerFits t) → FitState u
+  answer_fits t u e w k = subst TrainerFits e (k (ap accepted_of e ∙ accepted_embeds u w))
 
   pub step_fits : (c : Call) → FitCall c → FitState (step st c).state
   unfolding step
   step_fits (counts xs) h =
-      answer-fits _ _ (ap (λ (a : Answered). a.trainer) (answer_counts_embeds st v xs)) (step_valid st v (counts xs) h) (counted_fits (embed st) xs f)
+      answer_fits _ _ (ap (λ (a : Answered). a.trainer) (answer_counts_embeds st v xs)) (step_valid st v (counts xs) h) (counted_fits (embed st) xs f)
   step_fits (score x) h =
-      answer-fits _ _ (ap (λ (a : Answered). a.trainer) (answer_score_embeds st v x)) (step_valid st v (score x) h)
+      answer_fits _ _ (ap (λ (a : Answered). a.trainer) (answer_score_embeds st v x)) (step_valid st v (score x) h)
       (scored_fits (embed st) x f h (accepted_embeds st v))
-  step_fits (change s) h = new-settings (settings_hold s) refl
+  step_fits (change s) h = new_settings (settings_hold s) refl
     where
-      new-settings : (b : Bool) → settings_hold s ≡ b → FitState (changed st s).state
-      new-settings true e =
-          answer-fits _ _ (ap (λ (a : Answered). a.trainer) (change_embeds st v s)) (step_valid st v (change s) h) (changed_fits (embed st) s f (settings_fit_lem s e h))
-      new-settings false e = subst FitState (sym (refused_stays st s (settings-same s ∙ e))) f
+      new_settings : (b : Bool) → settings_hold s ≡ b → FitState (changed st s).state
+      new_settings true e =
+          answer_fits _ _ (ap (λ (a : Answered). a.trainer) (change_embeds st v s)) (step_valid st v (change s) h) (changed_fits (embed st) s f (settings_fit_lem s e h))
+      new_settings false e = subst FitState (sym (refused_stays st s (settings_same s ∙ e))) f
   step_fits (reload buffer) h = go (leb (length (record_bytes st)) (length buffer))
     where
       go : (z : Bool) → FitState (cond z (record { state = st; refused = 0; saved = record_bytes st }) (refuse 9 st)).state

@@ -17,13 +17,13 @@ use Rattle.rule_tree.specs.Walk.{first_from, descend, leaf_of}
 use Rattle.rule_tree.specs.Change.{fresh_tree, split_at_of}
 use Rattle.rule_tree.specs.Calls.{most_used_of}
 use Rattle.rule_tree.proofs.Plain.{PointFits}
-use Rattle.rule_tree.proofs.Changing.{fresh_length, split-length}
+use Rattle.rule_tree.proofs.Changing.{fresh_length, split_length}
 use Rattle.rule_tree_laws.proofs.Lens.{root_split, root_split_grown, lens_most_used}
 use Rattle.sender.specs.declared.Average.TheVariants.{Empty, Of}
 use Rattle.sender.specs.Memory.{averaged}
 use Rattle.record.proofs.BytesFit.{ends-fit}
 use Rattle.promise.specs.Demand3.{InLeaf, InNoLeaf}
-use Rattle.promise.proofs.Ways.{in_leaf, in-no-leaf}
+use Rattle.promise.proofs.Ways.{in_leaf, in_no_leaf}
 
 -- m times 2 ^ e, and one half
 abbrev pub whole : ℕ → ℕ → Float
@@ -48,7 +48,7 @@ pub record LensChecks (a : Action) (d : Float) : Type 0 where
   pub late_in_5 : InLeaf (root_split a) late 5
   pub slow_in_2 : InLeaf (root_split a) slow 2
   pub outer_in_none : InNoLeaf (root_split a) outer
-  pub nan-in-none :
+  pub nan_in_none :
       (x y : Float)
       → InNoLeaf (root_split a) (point_of nan x y) × (InNoLeaf (root_split a) (point_of x nan y) × InNoLeaf (root_split a) (point_of x y nan))
   -- "Window, multiplier, increment: 10, 0.5, +1 gives 6; 3, 0.5, -5 gives 0; 4294967295, 1, 0 gives 1,000,000; NaN, +7 gives 7"
@@ -75,21 +75,21 @@ unfolding contains_of le lt
 box_holds_lem = (refl, refl)
 
 split_sized : (a : Action) → length (root_split a).nodes ≡ 513
-split_sized a = split-length (fresh_tree usual_ends a) 0 ∙ fresh_length usual_ends a
+split_sized a = split_length (fresh_tree usual_ends a) 0 ∙ fresh_length usual_ends a
 
 split_box : (a : Action) → (root_split a).ends ≡ usual_ends
 unfolding split_at_of
 split_box a = refl
 
 module _ (a : Action) (v : valid_of a ≡ true) (p : Point) where
-  split-fits : PointFits (root_split a).ends
-  split-fits = rw (split_box a) ends-fit
+  split_fits : PointFits (root_split a).ends
+  split_fits = rw (split_box a) ends-fit
 
-  split-inside : (i : ℕ) → contains_of (root_of usual_ends) p ≡ true → leaf_of (root_split a) p ≡ i → InLeaf (root_split a) p i
-  split-inside i e l = subst (InLeaf (root_split a) p) l (in_leaf (root_split a) (root_split_grown a v) (split_sized a) split-fits p (rw (split_box a) e))
+  split_inside : (i : ℕ) → contains_of (root_of usual_ends) p ≡ true → leaf_of (root_split a) p ≡ i → InLeaf (root_split a) p i
+  split_inside i e l = subst (InLeaf (root_split a) p) l (in_leaf (root_split a) (root_split_grown a v) (split_sized a) split_fits p (rw (split_box a) e))
 
-  split-outside : contains_of (root_of usual_ends) p ≡ false → InNoLeaf (root_split a) p
-  split-outside e = in-no-leaf (root_split a) (root_split_grown a v) (split_sized a) split-fits p (rw (split_box a) e)
+  split_outside : contains_of (root_of usual_ends) p ≡ false → InNoLeaf (root_split a) p
+  split_outside e = in_no_leaf (root_split a) (root_split_grown a v) (split_sized a) split_fits p (rw (split_box a) e)
 
 -- ---- the average
 gaps_average : averaged (averaged Empty (span (whole 1 3))) (span (whole 1 4)) ≡ Of (span (whole 9 0))
@@ -100,13 +100,13 @@ pub lens_checks : (a : Action) → valid_of a ≡ true → (d : Float) → LensC
 lens_checks a v d =
     let box = root_of usual_ends in
     record {
-      late_in_5 = split-inside a v late 5 box_holds_lem.0 (late_leaf a);
-      slow_in_2 = split-inside a v slow 2 box_holds_lem.1 (slow_leaf a);
-      outer_in_none = split-outside a v outer upper_end_out;
-      nan-in-none =
+      late_in_5 = split_inside a v late 5 box_holds_lem.0 (late_leaf a);
+      slow_in_2 = split_inside a v slow 2 box_holds_lem.1 (slow_leaf a);
+      outer_in_none = split_outside a v outer upper_end_out;
+      nan_in_none =
           λ x y. (
-            split-outside a v (point_of nan x y) (nan_ack box x y),
-            (split-outside a v (point_of x nan y) (nan_send box x y), split-outside a v (point_of x y nan) (nan_ratio box x y)),
+            split_outside a v (point_of nan x y) (nan_ack box x y),
+            (split_outside a v (point_of x nan y) (nan_send box x y), split_outside a v (point_of x y nan) (nan_ratio box x y)),
           );
       window_1 = window_six d;
       window_2 = window_none d;

@@ -16,7 +16,7 @@ use Rattle.trainer.specs.State.{accepted_of}
 use Rattle.trainer.specs.Phases.{taken, refuse}
 use Rattle.trainer.specs.Calls.{blank_trainer}
 use Rattle.wire.specs.Bytes.{bytes_of}
-use Rattle.record.specs.Layout.{layout_of, known_of, carries}
+use Rattle.record.specs.Layout.{layout_of, known_of}
 use Rattle.record.specs.Write.{version, body_of, record_in, record_of}
 use Rattle.record.specs.Read.{version_at, read_of}
 use Rattle.record.specs.Calls.{length_holds, version_holds, body_holds, load_of}
@@ -25,8 +25,8 @@ use Rattle.record.proofs.RoundTrip.{Carried}
 use Rattle.record.proofs.Loading as loading
 use Rattle.promise.proofs.Unembed.{TrainerFits, whole_typed}
 use Rattle.promise.proofs.Records.{record_is}
-use Rattle.promise.proofs.ReadTypes.{read-typed, read_carried}
-use Rattle.promise.proofs.EveryTrainer.{load-back}
+use Rattle.promise.proofs.ReadTypes.{read_typed, read_carried}
+use Rattle.promise.proofs.EveryTrainer.{load_back}
 
 -- ---- what a load that is not refused found
 not_refused :
@@ -50,14 +50,14 @@ module _ (bytes : List ℕ) (h : (load_of bytes).refused ≡ 0) where
   again : loading.Loaded bytes (read_of bytes)
   again = loading.load_again bytes (read_of bytes) found
 
-  pub load-accepted : accepted_of (load_of bytes).trainer ≡ true
-  load-accepted = ap (λ (r : Answered). accepted_of r.trainer) found ∙ again.accepted
+  pub load_accepted : accepted_of (load_of bytes).trainer ≡ true
+  load_accepted = ap (λ (r : Answered). accepted_of r.trainer) found ∙ again.accepted
 
   pub load_typed : TrainerFits (load_of bytes).trainer
-  load_typed = subst (λ (r : Answered). TrainerFits r.trainer) (sym found) (read-typed (layout_of (version_at bytes)) bytes again.accepted)
+  load_typed = subst (λ (r : Answered). TrainerFits r.trainer) (sym found) (read_typed (layout_of (version_at bytes)) bytes again.accepted)
 
-  load-carried : Carried (layout_of (version_at bytes)) (load_of bytes).trainer
-  load-carried =
+  load_carried : Carried (layout_of (version_at bytes)) (load_of bytes).trainer
+  load_carried =
       subst (λ (r : Answered). Carried (layout_of (version_at bytes)) r.trainer) (sym found) (read_carried (layout_of (version_at bytes)) bytes)
 
   load_again : record_in (layout_of (version_at bytes)) (version_at bytes) (load_of bytes).trainer ≡ bytes
@@ -68,8 +68,8 @@ module _ (bytes : List ℕ) (h : (load_of bytes).refused ≡ 0) where
   load_written v = ap (λ (n : ℕ). record_in (layout_of n) n (load_of bytes).trainer) (sym v) ∙ load_again
 
   -- whatever version was loaded, what is saved then loads as the same trainer
-  pub saved-again : load_of (record_of (load_of bytes).trainer) ≡ taken (load_of bytes).trainer
-  saved-again = load-back (load_of bytes).trainer load-accepted load_typed
+  pub saved_again : load_of (record_of (load_of bytes).trainer) ≡ taken (load_of bytes).trainer
+  saved_again = load_back (load_of bytes).trainer load_accepted load_typed
 
 -- a record that leaves the parents out: "its parents holding the default action, unmarked"
 pub parents_given :
@@ -79,7 +79,7 @@ pub parents_given :
     ≡ node_holding t.settings.default_action (node_at_of t.tree.nodes i).children false
 parents_given bytes h v i l n =
     let t = (load_of bytes).trainer in
-    let c = subst (λ (k : ℕ). Carried (layout_of k) t) v (load-carried bytes h) in
+    let c = subst (λ (k : ℕ). Carried (layout_of k) t) v (load_carried bytes h) in
     c.parents i l (ne_eqb (node_at_of t.tree.nodes i).children 0 n)
 
 -- older versions "are written again as version 3"
@@ -90,7 +90,7 @@ written_version t =
 
 -- "the trainer that wrote it" is accepted
 pub written_loads : (t : Trainer) → accepted_of t ≡ true → TrainerFits t → (load_of (record_of t)).refused ≡ 0
-written_loads t a f = ap (λ (r : Answered). r.refused) (load-back t a f)
+written_loads t a f = ap (λ (r : Answered). r.refused) (load_back t a f)
 
 -- ---- bytes are accepted exactly when they are the record, in a version that is known, of an accepted trainer that this version can carry
 pub record RecordOf (v : ℕ) (bytes : List ℕ) (t : Trainer) : Type 0 where
@@ -103,18 +103,18 @@ pub record RecordOf (v : ℕ) (bytes : List ℕ) (t : Trainer) : Type 0 where
 pub accepts_records : (bytes : List ℕ) → (load_of bytes).refused ≡ 0 → RecordOf (version_at bytes) bytes (load_of bytes).trainer
 accepts_records bytes h =
     record {
-      accepted = load-accepted bytes h;
+      accepted = load_accepted bytes h;
       typed = load_typed bytes h;
       known = (again bytes h).known;
-      carries = load-carried bytes h;
+      carries = load_carried bytes h;
       written = load_again bytes h;
     }
 
 pub records_accepted : (v : ℕ) (bytes : List ℕ) (t : Trainer) → RecordOf v bytes t → load_of bytes ≡ taken t
 records_accepted v bytes t r =
     ap load_of (sym r.written)
-    ∙ loading.load-carried v r.known t (whole_typed t r.accepted r.typed) r.accepted r.carries
+    ∙ loading.load_carried v r.known t (whole_typed t r.accepted r.typed) r.accepted r.carries
 
 -- no two accepted trainers have one record
 pub record_once : (t u : Trainer) → accepted_of t ≡ true → TrainerFits t → accepted_of u ≡ true → TrainerFits u → record_of t ≡ record_of u → t ≡ u
-record_once t u a f b g e = ap (λ (r : Answered). r.trainer) (sym (load-back t a f) ∙ ap load_of e ∙ load-back u b g)
+record_once t u a f b g e = ap (λ (r : Answered). r.trainer) (sym (load_back t a f) ∙ ap load_of e ∙ load_back u b g)

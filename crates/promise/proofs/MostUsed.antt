@@ -15,11 +15,11 @@ use Rattle.rule_tree.specs.declared.Chosen.TheVariants.{Leaf, Nobody, Refused}
 use Rattle.rule_tree.specs.Nodes.{node_at_of}
 use Rattle.rule_tree.specs.Counts.{eligible}
 use Rattle.rule_tree.specs.Counts as layer
-use Rattle.rule_tree.proofs.Counting.{most-used-leaf, most-used-answers, most-used-only}
+use Rattle.rule_tree.proofs.Counting.{most_used_leaf, most_used_answers, most_used_only}
 use Rattle.promise.specs.PlainTree.{Tree, nodes, member, is_leaf_of, rule_at, from, those, leaves, unmarked_leaves, Choice, nobody, leaf, or_later, most_used}
 use Rattle.promise.proofs.Links.{no, link_owner}
 use Rattle.promise.proofs.Embed.{embed_tree, ValidTree, leaf_from}
-use Rattle.promise.proofs.TreeKeeps.{children-is, leaf-node}
+use Rattle.promise.proofs.TreeKeeps.{children_is, leaf_node_lem}
 
 -- ---- lists of nodes
 those_same : (f g : ℕ → Bool) (xs : List ℕ) → ((i : ℕ) → f i ≡ g i) → those f xs ≡ those g xs
@@ -133,16 +133,16 @@ unfolding eligible
 eligible_not x u e = rw e
 
 module _ (t : Tree) (v : ValidTree t) (u : Bool) where
-  pub eligible-embeds : (i : ℕ) → i < nodes t → eligible (node_at_of (embed_tree t).nodes i) u ≡ asked t u i
-  eligible-embeds i l = go (member i t.splits) refl
+  pub eligible_embeds : (i : ℕ) → i < nodes t → eligible (node_at_of (embed_tree t).nodes i) u ≡ asked t u i
+  eligible_embeds i l = go (member i t.splits) refl
     where
       go : (m : Bool) → member i t.splits ≡ m → eligible (node_at_of (embed_tree t).nodes i) u ≡ (ltb i (nodes t) && not m) && not (u && (rule_at t i).marked)
       go true e =
-          eligible_not (node_at_of (embed_tree t).nodes i) u (children-is t v i l ∙ ap not e)
+          eligible_not (node_at_of (embed_tree t).nodes i) u (children_is t v i l ∙ ap not e)
           ∙ sym (ap (λ (b : Bool). (b && false) && not (u && (rule_at t i).marked)) (lt-ltb i (nodes t) l))
       go false e =
-          eligible_at (node_at_of (embed_tree t).nodes i) u (children-is t v i l ∙ ap not e)
-          ∙ ap (λ (x : Node). not (u && x.optimized)) (leaf-node t v i (leaf_from t i l e))
+          eligible_at (node_at_of (embed_tree t).nodes i) u (children_is t v i l ∙ ap not e)
+          ∙ ap (λ (x : Node). not (u && x.optimized)) (leaf_node_lem t v i (leaf_from t i l e))
           ∙ sym (ap (λ (b : Bool). (b && true) && not (u && (rule_at t i).marked)) (lt-ltb i (nodes t) l))
 
   chosen_is :
@@ -150,32 +150,32 @@ module _ (t : Tree) (v : ValidTree t) (u : Bool) where
       → layer.most_used (embed_tree t).nodes counts u (nodes t) ≡ chosen c
   unfolding chosen
   chosen_is counts (leaf b) h =
-      most-used-only (embed_tree t).nodes counts u (nodes t) b
+      most_used_only (embed_tree t).nodes counts u (nodes t) b
       (let b<n : b < nodes t = omega (arith, h.below) in
       record {
         below = b<n;
-        asked = eligible-embeds b b<n ∙ h.kept;
-        greatest = λ i l a. h.greatest i (omega arith) (omega arith) (sym (eligible-embeds i l) ∙ a);
-        highest = λ i l a s. h.highest i (omega arith) (omega arith) (sym (eligible-embeds i l) ∙ a) s;
+        asked = eligible_embeds b b<n ∙ h.kept;
+        greatest = λ i l a. h.greatest i (omega arith) (omega arith) (sym (eligible_embeds i l) ∙ a);
+        highest = λ i l a s. h.highest i (omega arith) (omega arith) (sym (eligible_embeds i l) ∙ a) s;
       })
   chosen_is counts nobody h = go (layer.most_used (embed_tree t).nodes counts u (nodes t)) refl
     where
       go : (m : Chosen) → layer.most_used (embed_tree t).nodes counts u (nodes t) ≡ m → layer.most_used (embed_tree t).nodes counts u (nodes t) ≡ Nobody
       go (Leaf b) e =
-          let m = most-used-leaf (embed_tree t).nodes counts u (nodes t) b e in
-          absurd (no (asked t u b) (sym (eligible-embeds b m.below) ∙ m.asked) (h b (omega arith) (omega (arith, m.below))))
+          let m = most_used_leaf (embed_tree t).nodes counts u (nodes t) b e in
+          absurd (no (asked t u b) (sym (eligible_embeds b m.below) ∙ m.asked) (h b (omega arith) (omega (arith, m.below))))
       go Nobody e = e
-      go (Refused k) e = absurd (most-used-answers (embed_tree t).nodes counts u (nodes t) k e)
+      go (Refused k) e = absurd (most_used_answers (embed_tree t).nodes counts u (nodes t) k e)
 
 module _ (t : Tree) (v : ValidTree t) (counts : List ℕ) (n : length counts ≡ nodes t) where
-  pub most-used-embeds : layer.most_used (embed_tree t).nodes counts false (length counts) ≡ chosen (most_used counts (leaves t))
-  most-used-embeds =
+  pub most_used_embeds : layer.most_used (embed_tree t).nodes counts false (length counts) ≡ chosen (most_used counts (leaves t))
+  most_used_embeds =
       ap (layer.most_used (embed_tree t).nodes counts false) n
       ∙ chosen_is t v false counts (most_used counts (those (asked t false) (from 0 (nodes t)))) (says (asked t false) counts (nodes t) 0)
       ∙ ap (λ (xs : List ℕ). chosen (most_used counts xs)) (those_same (asked t false) (is_leaf_of t) (from 0 (nodes t)) (λ i. and-true (is_leaf_of t i)))
 
-  pub most-used-unmarked-embeds : layer.most_used (embed_tree t).nodes counts true (length counts) ≡ chosen (most_used counts (unmarked_leaves t))
-  most-used-unmarked-embeds =
+  pub most_used_unmarked_embeds : layer.most_used (embed_tree t).nodes counts true (length counts) ≡ chosen (most_used counts (unmarked_leaves t))
+  most_used_unmarked_embeds =
       ap (layer.most_used (embed_tree t).nodes counts true) n
       ∙ chosen_is t v true counts (most_used counts (those (asked t true) (from 0 (nodes t)))) (says (asked t true) counts (nodes t) 0)
       ∙ ap (λ (xs : List ℕ). chosen (most_used counts xs)) (sym (those_those (is_leaf_of t) (λ i. not (rule_at t i).marked) (from 0 (nodes t))))
@@ -191,18 +191,18 @@ last_leaf t v = leaf_from t (8 * length t.splits) (omega arith) (go (member (8 *
 
 -- ---- what is chosen
 module _ (t : Tree) (counts : List ℕ) where
-  pub chosen-leaf : (b : ℕ) → most_used counts (leaves t) ≡ leaf b → is_leaf_of t b ≡ true
-  chosen-leaf b e = (subst (Says (is_leaf_of t) counts 0 (nodes t)) e (says (is_leaf_of t) counts (nodes t) 0)).kept
+  pub chosen_leaf_lem : (b : ℕ) → most_used counts (leaves t) ≡ leaf b → is_leaf_of t b ≡ true
+  chosen_leaf_lem b e = (subst (Says (is_leaf_of t) counts 0 (nodes t)) e (says (is_leaf_of t) counts (nodes t) 0)).kept
 
-  pub chosen-unmarked : (b : ℕ) → most_used counts (unmarked_leaves t) ≡ leaf b → is_leaf_of t b && not (rule_at t b).marked ≡ true
-  chosen-unmarked b e =
+  pub chosen_unmarked : (b : ℕ) → most_used counts (unmarked_leaves t) ≡ leaf b → is_leaf_of t b && not (rule_at t b).marked ≡ true
+  chosen_unmarked b e =
       (subst (Says (λ i. is_leaf_of t i && not (rule_at t i).marked) counts 0 (nodes t))
       (ap (most_used counts) (sym (those_those (is_leaf_of t) (λ i. not (rule_at t i).marked) (from 0 (nodes t)))) ∙ e)
       (says (λ i. is_leaf_of t i && not (rule_at t i).marked) counts (nodes t) 0)
       ).kept
 
   -- the last node is a leaf
-  pub chosen-some : ValidTree t → most_used counts (leaves t) ≡ nobody → ⊥
-  chosen-some v e =
+  pub chosen_some : ValidTree t → most_used counts (leaves t) ≡ nobody → ⊥
+  chosen_some v e =
       no (is_leaf_of t (8 * length t.splits)) (last_leaf t v)
       (subst (Says (is_leaf_of t) counts 0 (nodes t)) e (says (is_leaf_of t) counts (nodes t) 0) (8 * length t.splits) (omega arith) (omega arith))

@@ -5,7 +5,7 @@ use mathlib.Core.List.{List}
 use lib.Dec.{leb}
 use lib.ListN.{length}
 use lib.IntN.{ℤ, pos}
-use lib.Ieee.{Float, binary64, mul, le, of_int}
+use lib.Ieee.{Float, binary64, of_int}
 use Rattle.remy.specs.declared.action.Action.{Action}
 use Rattle.remy.specs.Action.{valid_of}
 use Rattle.remy.specs.Cube.{ends_admitted}
@@ -57,15 +57,15 @@ module _ (s : Settings) where
   whole_same : plain.whole_axis 9 plain.increment_of s ≡ theirs.increment_axis 9 s
   whole_same = whole_axis_lem 9 (pos s.action_change_multiplier) s.initial_action_change.window_increment s.max_action_change.window_increment
 
-  axes-same : axes_taken s ≡ axes_hold s
+  axes_same : axes_taken s ≡ axes_hold s
   unfolding axes_taken axes_hold
-  axes-same =
+  axes_same =
       let few : (xs ys : List Float) (zs : List ℤ) → Bool = λ xs ys zs. leb (length xs) 8 && (leb (length zs) 8 && leb (length ys) 8) in
       λ j. few (float_same plain.multiplier_of j) (float_same plain.delay_of j) (whole_same j)
 
-  pub settings-same : settings_taken s ≡ settings_hold s
+  pub settings_same : settings_taken s ≡ settings_hold s
   unfolding settings_taken settings_hold
-  settings-same = λ j. numbers_same s j && (actions_same s j && (changes_same s j && (axes-same j && ends_same s j)))
+  settings_same = λ j. numbers_same s j && (actions_same s j && (changes_same s j && (axes_same j && ends_same s j)))
 
 pub mode_same : (m : RepeatMode) → mode_taken m ≡ mode_holds m
 unfolding mode_taken mode_holds

@@ -16,8 +16,8 @@ use Rattle.promise.specs.PlainTree.{Tree, rule_at}
 use Rattle.promise.specs.PlainTrainer.{State, Phase, phase1, phase2, phase3, phase4, phase5, phase6, phase7, at, progress, ask, question}
 use Rattle.promise.specs.Demand3.{shown_as}
 use Rattle.promise.proofs.Embed.{embed_tree, ValidTree}
-use Rattle.promise.proofs.TreeKeeps.{leaf-node}
-use Rattle.promise.proofs.Candidates.{candidate-same}
+use Rattle.promise.proofs.TreeKeeps.{leaf_node_lem}
+use Rattle.promise.proofs.Candidates.{candidate_same}
 use Rattle.promise.proofs.Accepted.{accepted_embeds}
 use Rattle.promise.proofs.States.{embed_in, embed, ValidPhase, ValidState}
 
@@ -33,11 +33,11 @@ asked_in s t i r phase1 v h = refl
 asked_in s t i r phase2 v h = refl
 asked_in s t i r phase3 v h = refl
 asked_in s t i r (phase4 leaf) v h =
-    ap (λ (x : Node). declared.Score leaf (action_in x) (progress (at s t i r (phase4 leaf)))) (leaf-node t v leaf h.1.leaf)
+    ap (λ (x : Node). declared.Score leaf (action_in x) (progress (at s t i r (phase4 leaf)))) (leaf_node_lem t v leaf h.1.leaf)
 asked_in s t i r (phase5 leaf best k kept) v h =
     ap (λ (x : Node). declared.Score leaf (get_or (candidates_of s (action_in x)) k no_candidate) (progress (at s t i r (phase5 leaf best k kept))))
-    (leaf-node t v leaf h.1.0.leaf)
-    ∙ ap (λ (a : Action). declared.Score leaf a (progress (at s t i r (phase5 leaf best k kept)))) (candidate-same s (rule_at t leaf).action k h.1.1.below)
+    (leaf_node_lem t v leaf h.1.0.leaf)
+    ∙ ap (λ (a : Action). declared.Score leaf a (progress (at s t i r (phase5 leaf best k kept)))) (candidate_same s (rule_at t leaf).action k h.1.1.below)
 asked_in s t i r phase6 v h = refl
 asked_in s t i r phase7 v h = refl
 

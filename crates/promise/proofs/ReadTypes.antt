@@ -12,7 +12,7 @@ use Rattle.remy.specs.Cube.{usual_ends}
 use Rattle.rule_tree.specs.declared.Node.{Node}
 use Rattle.rule_tree.specs.Nodes.{no_node, node_at_of, node_count, blank_node, action_in, node_holding}
 use Rattle.rule_tree.proofs.Lists.{length_tabulate, get_d_tabulate}
-use Rattle.rule_tree.proofs.Links.{grown-valid}
+use Rattle.rule_tree.proofs.Links.{grown_valid}
 use Rattle.rule_tree.proofs.Plain.{ActionFits, PointFits}
 use Rattle.trainer.specs.declared.Trainer.{Trainer}
 use Rattle.trainer.specs.State.{accepted_of}
@@ -21,12 +21,12 @@ use Rattle.record.specs.Layout.{carries, given_action, list_place}
 use Rattle.wire.specs.Fields.{action_at, flag_at, point_at}
 use Rattle.record.specs.Read.{settings_at, link_of, payload_place, node_with, node_at_place, split_count, read_in}
 use Rattle.record.proofs.Size.{carried}
-use Rattle.record.proofs.Reading.{node-is, unused-is}
+use Rattle.record.proofs.Reading.{node_is, unused_is}
 use Rattle.record.proofs.RoundTrip.{Carried}
 use Rattle.record.proofs.BytesFit.{plain_fits, ends-fit}
 use Rattle.promise.specs.Values.{FitAction}
 use Rattle.promise.proofs.Links.{no, or_right}
-use Rattle.promise.proofs.Unembed.{TrainerFits, accepted-grown}
+use Rattle.promise.proofs.Unembed.{TrainerFits, accepted_grown}
 use Rattle.promise.proofs.Fitting.{valid_fits}
 
 -- ---- the node that is read at a place
@@ -75,36 +75,36 @@ module _ (lay : Layout) (bytes : List ℕ) where
   abbrev child : ℕ → ℕ
   child i = link_of bytes (list_place lay) count i
 
-  read-used : (i : ℕ) → i < 513 → ltb i (node_count count) ≡ true → node_at_of read.tree.nodes i ≡ node_with lay given bytes (place i) (child i)
-  read-used i l p =
-      get_d_tabulate 513 i (node_at_place lay given bytes count) no_node l ∙ sym (node-is lay given bytes count i (ltb-true i (node_count count) p))
+  read_used : (i : ℕ) → i < 513 → ltb i (node_count count) ≡ true → node_at_of read.tree.nodes i ≡ node_with lay given bytes (place i) (child i)
+  read_used i l p =
+      get_d_tabulate 513 i (node_at_place lay given bytes count) no_node l ∙ sym (node_is lay given bytes count i (ltb-true i (node_count count) p))
 
-  read-unused : (i : ℕ) → i < 513 → ltb i (node_count count) ≡ false → node_at_of read.tree.nodes i ≡ blank_node
-  read-unused i l p =
-      get_d_tabulate 513 i (node_at_place lay given bytes count) no_node l ∙ unused-is lay given bytes count i (ltb-false i (node_count count) p)
+  read_unused : (i : ℕ) → i < 513 → ltb i (node_count count) ≡ false → node_at_of read.tree.nodes i ≡ blank_node
+  read_unused i l p =
+      get_d_tabulate 513 i (node_at_place lay given bytes count) no_node l ∙ unused_is lay given bytes count i (ltb-false i (node_count count) p)
 
-  node-typed : accepted_of (read_in lay bytes) ≡ true → (i : ℕ) → i < 513 → ActionFits (action_in (node_at_of read.tree.nodes i))
-  node-typed a i l = go (ltb i (node_count count)) refl
+  node_typed : accepted_of (read_in lay bytes) ≡ true → (i : ℕ) → i < 513 → ActionFits (action_in (node_at_of read.tree.nodes i))
+  node_typed a i l = go (ltb i (node_count count)) refl
     where
       go : (y : Bool) → ltb i (node_count count) ≡ y → ActionFits (action_in (node_at_of read.tree.nodes i))
       go true p =
-          valid_fits (action_in (node_at_of read.tree.nodes i)) (grown-valid read.tree (accepted-grown read a) i (ltb-true i (node_count count) p))
-          (subst (λ (n : Node). FitAction (action_in n)) (sym (read-used i l p)) (node_action_typed lay bytes (place i) (child i)))
-      go false p = subst (λ (n : Node). ActionFits (action_in n)) (sym (read-unused i l p)) plain_fits
+          valid_fits (action_in (node_at_of read.tree.nodes i)) (grown_valid read.tree (accepted_grown read a) i (ltb-true i (node_count count) p))
+          (subst (λ (n : Node). FitAction (action_in n)) (sym (read_used i l p)) (node_action_typed lay bytes (place i) (child i)))
+      go false p = subst (λ (n : Node). ActionFits (action_in n)) (sym (read_unused i l p)) plain_fits
 
-  ends-typed : PointFits read.tree.ends
-  ends-typed = go lay.ends
+  ends_typed : PointFits read.tree.ends
+  ends_typed = go lay.ends
     where
       go : (z : Bool) → PointFits (cond z (point_at bytes 118) usual_ends)
       go true = record { acks = read_fits _; sends = read_fits _; ratios = read_fits _ }
       go false = ends-fit
 
-  pub read-typed : accepted_of (read_in lay bytes) ≡ true → TrainerFits (read_in lay bytes)
-  read-typed a =
+  pub read_typed : accepted_of (read_in lay bytes) ≡ true → TrainerFits (read_in lay bytes)
+  read_typed a =
       record {
         sized = length_tabulate 513 (node_at_place lay given bytes count);
-        nodes = node-typed a;
-        ends = ends-typed;
+        nodes = node_typed a;
+        ends = ends_typed;
         settings =
             record {
               least = action_typed bytes 18;
@@ -112,7 +112,7 @@ module _ (lay : Layout) (bytes : List ℕ) where
               initial = action_typed bytes 58;
               largest = action_typed bytes 78;
               default = action_typed bytes 98;
-              ends = record { acks = ends-typed.acks; sends = ends-typed.sends; ratios = ends-typed.ratios };
+              ends = record { acks = ends_typed.acks; sends = ends_typed.sends; ratios = ends_typed.ratios };
             };
         best = read_fits _;
         score = read_fits _;
@@ -130,6 +130,6 @@ module _ (lay : Layout) (bytes : List ℕ) where
       go :
           (i : ℕ) → i < 513 → carried lay read.tree.nodes i ≡ false → (y : Bool) → ltb i (node_count count) ≡ y
           → node_at_of read.tree.nodes i ≡ given_node_lem given (node_at_of read.tree.nodes i).children
-      go i l e true p = given_node lay given bytes (place i) (child i) (node_at_of read.tree.nodes i) (read-used i l p) e
+      go i l e true p = given_node lay given bytes (place i) (child i) (node_at_of read.tree.nodes i) (read_used i l p) e
       go i l e false p =
-          absurd (no (lay.parents || true) (or_right lay.parents true refl) (ap (λ (n : Node). carries lay n.children) (sym (read-unused i l p)) ∙ e))
+          absurd (no (lay.parents || true) (or_right lay.parents true refl) (ap (λ (n : Node). carries lay n.children) (sym (read_unused i l p)) ∙ e))

@@ -22,9 +22,9 @@ use Rattle.promise.specs.PlainTrainer.{State, Phase, Kept, nothing, phase1, phas
 use Rattle.promise.specs.PlainRecord.{joined, u16, u32, bits8, settings_part, ends_part, rule_part, tree_part}
 use Rattle.promise.proofs.RecordParts.{settings_part_lem, ends_part_lem, numbers_part, rule_part_lem, rules_last}
 use Rattle.promise.proofs.Links.{link}
-use Rattle.promise.proofs.Embed.{embed_tree, ValidTree, node-used, embed-at}
+use Rattle.promise.proofs.Embed.{embed_tree, ValidTree, node_used, embed_at}
 use Rattle.promise.proofs.TreeSteps.{no_rule}
-use Rattle.promise.proofs.TreeGrown.{splits-embed}
+use Rattle.promise.proofs.TreeGrown.{splits_embed}
 use Rattle.promise.proofs.Accepted.{settings_of, tree_of}
 use Rattle.promise.proofs.States.{embed_in, embed, ValidState}
 
@@ -40,32 +40,32 @@ payload_none ns = refl
 
 -- ---- every node's action and mark
 module _ (t : Tree) (v : ValidTree t) where
-  one-payload : (n : ℕ) → n < nodes t → node_bytes (node_at_of (embed_tree t).nodes n) ≡ rule_part (rule_at t n)
-  one-payload n l =
-      ap node_bytes (embed-at t n (omega (arith, v.few)) ∙ node-used t n l) ∙ sym (rule_part_lem (rule_at t n) (link 0 t.splits n))
+  one_payload : (n : ℕ) → n < nodes t → node_bytes (node_at_of (embed_tree t).nodes n) ≡ rule_part (rule_at t n)
+  one_payload n l =
+      ap node_bytes (embed_at t n (omega (arith, v.few)) ∙ node_used t n l) ∙ sym (rule_part_lem (rule_at t n) (link 0 t.splits n))
 
   payloads : (n : ℕ) → n ≤ nodes t → payload_bytes (layout_of version) (embed_tree t).nodes n ≡ joined (map rule_part (take n t.rules))
   payloads zero l = payload_none (embed_tree t).nodes
   payloads (suc n) l =
       payload_last (embed_tree t).nodes n
       ∙ ap (λ (bs : List ℕ). bs ++ node_bytes (node_at_of (embed_tree t).nodes n)) (payloads n (omega arith))
-      ∙ ap (λ (bs : List ℕ). joined (map rule_part (take n t.rules)) ++ bs) (one-payload n (omega arith))
+      ∙ ap (λ (bs : List ℕ). joined (map rule_part (take n t.rules)) ++ bs) (one_payload n (omega arith))
       ∙ rules_last (take n t.rules) (rule_at t n)
       ∙ ap (λ (rs : List Rule). joined (map rule_part rs)) (sym (take-suc t.rules n no_rule (omega (arith, v.sized))))
 
-  every-payload : payload_bytes (layout_of version) (embed_tree t).nodes (nodes t) ≡ joined (map rule_part t.rules)
-  every-payload =
+  every_payload : payload_bytes (layout_of version) (embed_tree t).nodes (nodes t) ≡ joined (map rule_part t.rules)
+  every_payload =
       payloads (nodes t) (omega arith)
       ∙ ap (λ (rs : List Rule). joined (map rule_part rs)) (take_all (nodes t) t.rules (omega (arith, v.sized)))
 
-  tree-bytes : (bs : List ℕ) → splits_bytes (embed_tree t) ++ (payload_bytes (layout_of version) (embed_tree t).nodes (nodes t) ++ bs) ≡ tree_part t ++ bs
-  tree-bytes bs =
+  tree_bytes : (bs : List ℕ) → splits_bytes (embed_tree t) ++ (payload_bytes (layout_of version) (embed_tree t).nodes (nodes t) ++ bs) ≡ tree_part t ++ bs
+  tree_bytes bs =
       let n = bytes_of 2 (length t.splits) in
       let ks = joined (map u16 t.splits) in
       let rs = joined (map rule_part t.rules) in
       ap (λ (xs : List ℕ). (n ++ xs) ++ (payload_bytes (layout_of version) (embed_tree t).nodes (nodes t) ++ bs))
-      (ap numbers_bytes (splits-embed t v) ∙ sym (numbers_part t.splits))
-      ∙ ap (λ (ps : List ℕ). (n ++ ks) ++ (ps ++ bs)) every-payload
+      (ap numbers_bytes (splits_embed t v) ∙ sym (numbers_part t.splits))
+      ∙ ap (λ (ps : List ℕ). (n ++ ks) ++ (ps ++ bs)) every_payload
       ∙ sym (append_assoc (n ++ ks) rs bs)
       ∙ ap (λ (xs : List ℕ). xs ++ bs) (append_assoc n ks rs ∙ ap (λ (xs : List ℕ). n ++ (ks ++ xs)) (sym (append-nil rs)))
 
@@ -100,7 +100,7 @@ body_embeds st v =
     ∙ ap (λ (xs : List ℕ). version ∷ (ss ++ (xs ++ (splits_bytes (embed st).tree ++ (payload_bytes (layout_of version) (embed st).tree.nodes (layer.node_count (embed st).tree.splits) ++ bs)))))
     (ap (end_bytes (layout_of version)) s ∙ sym (ends_part_lem (layout_of version) st.settings refl))
     ∙ ap (λ (x : RuleTree). version ∷ (ss ++ (es ++ (splits_bytes x ++ (payload_bytes (layout_of version) x.nodes (layer.node_count x.splits) ++ bs))))) q
-    ∙ ap (λ (xs : List ℕ). version ∷ (ss ++ (es ++ xs))) (tree-bytes st.tree v bs)
+    ∙ ap (λ (xs : List ℕ). version ∷ (ss ++ (es ++ xs))) (tree_bytes st.tree v bs)
     ∙ ap (λ (xs : List ℕ). version ∷ (ss ++ (es ++ (tree_part st.tree ++ xs))))
     (state_bytes_lem st.settings st.tree st.stage st.round st.phase ∙ sym (append-nil (phase_bytes st st.phase)))
 

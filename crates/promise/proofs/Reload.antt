@@ -12,8 +12,8 @@ use Rattle.trainer.specs.Phases.{taken}
 use Rattle.record.specs.declared.Saved.TheVariants.{Size, Refused}
 use Rattle.record.specs.Write.{record_of}
 use Rattle.record.specs.Calls.{save_of, buffer_after, load_of}
-use Rattle.record.proofs.Size.{record-count}
-use Rattle.record.proofs.Loading.{accepted-grown, load_saved}
+use Rattle.record.proofs.Size.{record_count}
+use Rattle.record.proofs.Loading.{accepted_grown, load_saved}
 use Rattle.promise.specs.PlainTrainer.{State, record_bytes}
 use Rattle.promise.proofs.Embed.{embed_tree}
 use Rattle.promise.proofs.States.{embed, ValidState}
@@ -22,15 +22,15 @@ use Rattle.promise.proofs.Records.{record_embeds}
 use Rattle.promise.proofs.Fitting.{FitState}
 
 module _ (st : State) (v : ValidState st) (f : FitState st) where
-  pub record-length : length (record_bytes st) ≡ 196 + 170 * length st.tree.splits
-  record-length =
+  pub record_length : length (record_bytes st) ≡ 196 + 170 * length st.tree.splits
+  record_length =
       ap length (sym (record_embeds st v))
-      ∙ record-count (embed st) (accepted-grown (embed st) (accepted_embeds st v)) f.tree.full
+      ∙ record_count (embed st) (accepted_grown (embed st) (accepted_embeds st v)) f.tree.full
       ∙ ap (λ (u : RuleTree). 196 + 170 * u.splits) (tree_of st.settings (embed_tree st.tree) st.stage st.round st.phase)
 
   -- a load of exactly the bytes written
-  pub load-embeds : load_of (record_bytes st) ≡ taken (embed st)
-  load-embeds = ap load_of (sym (record_embeds st v)) ∙ load_saved (embed st) f (accepted_embeds st v)
+  pub load_embeds : load_of (record_bytes st) ≡ taken (embed st)
+  load_embeds = ap load_of (sym (record_embeds st v)) ∙ load_saved (embed st) f (accepted_embeds st v)
 
 -- ---- the two calls
 save_is :

@@ -31,7 +31,7 @@ use Rattle.promise.proofs.AnswerChange.{change_embeds}
 use Rattle.promise.proofs.Questions.{question_embeds}
 use Rattle.promise.proofs.StepsKeep.{step_valid}
 use Rattle.promise.proofs.Fitting.{FitState, step_fits}
-use Rattle.promise.proofs.Reload.{save_embeds, saved_embeds, load-embeds}
+use Rattle.promise.proofs.Reload.{save_embeds, saved_embeds, load_embeds}
 
 -- ---- an answer that is refused leaves the plain trainer as it was, and no answer saves
 record Plain (st : State) (o : Outcome) : Type 0 where
@@ -132,7 +132,7 @@ module _ (st : State) (v : ValidState st) (f : FitState st) (buffer : List ℕ) 
           ≡ plain_step (cond z (record { state = st; refused = 0; saved = record_bytes st }) (refuse 9 st))
       go true =
           ap (λ (bs : List ℕ). after_call (embed st) (load_of bs) (length (record_bytes st)) bs) written
-          ∙ ap (λ (a : Answered). after_call (embed st) a (length (record_bytes st)) (record_bytes st)) (load-embeds st v f)
+          ∙ ap (λ (a : Answered). after_call (embed st) a (length (record_bytes st)) (record_bytes st)) (load_embeds st v f)
       go false = refl
 
 pub step_embeds : (st : State) → ValidState st → FitState st → (c : Call) → step_of (embed st) c ≡ plain_step (step st c)
@@ -176,8 +176,8 @@ unfolding start_of
 start_is s h = rw h
 
 module _ (s : Settings) (h : settings_hold s ≡ true) where
-  pub starts-taken : (start_of s).refused ≡ 0
-  starts-taken = ap (λ (a : Answered). a.refused) (start_is s h)
+  pub starts_taken : (start_of s).refused ≡ 0
+  starts_taken = ap (λ (a : Answered). a.refused) (start_is s h)
 
-  pub starts-alike : (start_of s).trainer ≡ embed (start s)
-  starts-alike = ap (λ (a : Answered). a.trainer) (start_is s h) ∙ sym (start_embeds s)
+  pub starts_alike : (start_of s).trainer ≡ embed (start s)
+  starts_alike = ap (λ (a : Answered). a.trainer) (start_is s h) ∙ sym (start_embeds s)

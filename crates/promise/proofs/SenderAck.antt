@@ -25,7 +25,7 @@ use Rattle.promise.specs.Demand3.{AckHolds, SendHolds, TickHolds, Unmoved}
 use Rattle.promise.proofs.Links.{no}
 use Rattle.promise.proofs.Embed.{embed_tree, ValidTree}
 use Rattle.promise.proofs.SenderRender.{window_more, wait_more}
-use Rattle.promise.proofs.SenderLeaf.{leaf_inside, leaf-outside, reached}
+use Rattle.promise.proofs.SenderLeaf.{leaf_inside, leaf_outside, reached}
 use Rattle.promise.proofs.SenderSteps.{refused_stays}
 use Rattle.promise.proofs.SenderRun.{plain_step}
 
@@ -38,11 +38,11 @@ record Drew (s : PlainSender) (sent received : Float) (a : Action) (o : Reaction
   is : o ≡ take s sent received a next
 
 module _ (s : PlainSender) (sent received : Float) (a : Action) (m : RepeatMode) (draw : Draw) where
-  draw-fails : draw_fails m draw ≡ true → draw_for s sent received a m draw ≡ refuse 5 s
-  draw-fails e = rw e
+  draw_fails_lem : draw_fails m draw ≡ true → draw_for s sent received a m draw ≡ refuse 5 s
+  draw_fails_lem e = rw e
 
-  draw-serves : draw_fails m draw ≡ false → Drew s sent received a (draw_for s sent received a m draw)
-  draw-serves e = record { next = draw_leaves m draw a; is = rw e }
+  draw_serves : draw_fails m draw ≡ false → Drew s sent received a (draw_for s sent received a m draw)
+  draw_serves e = record { next = draw_leaves m draw a; is = rw e }
 
 -- a taken ack's action sets window and wait
 set_by : (s : PlainSender) (sent received : Float) (a : Action) (next : Pending) → SetBy s a (plain_step (take s sent received a next))
@@ -68,30 +68,30 @@ module _ (s : PlainSender) (t : Tree) (v : ValidTree t) (sent received : Float) 
   abbrev served : Reaction
   served = serve s t (pending_now s) sent received draw
 
-  repeat-way : (n : ℕ) (a : Action) → pending_now s ≡ Repeat n a → served ≡ take s sent received a Idle
+  repeat_way : (n : ℕ) (a : Action) → pending_now s ≡ Repeat n a → served ≡ take s sent received a Idle
   unfolding serve
-  repeat-way n a e = ap (λ (p : Pending). serve s t p sent received draw) e
+  repeat_way n a e = ap (λ (p : Pending). serve s t p sent received draw) e
 
-  idle-way : (c : Choice) → pending_now s ≡ Idle → leaf_at t point ≡ c → served ≡ look_up s t c sent received draw
+  idle_way : (c : Choice) → pending_now s ≡ Idle → leaf_at t point ≡ c → served ≡ look_up s t c sent received draw
   unfolding serve
-  idle-way c e l = ap (λ (p : Pending). serve s t p sent received draw) e ∙ ap (λ (c : Choice). look_up s t c sent received draw) l
+  idle_way c e l = ap (λ (p : Pending). serve s t p sent received draw) e ∙ ap (λ (c : Choice). look_up s t c sent received draw) l
 
-  outside-way : pending_now s ≡ Idle → in_box t point ≡ false → served ≡ refuse 22 s
+  outside_way : pending_now s ≡ Idle → in_box t point ≡ false → served ≡ refuse 22 s
   unfolding look_up
-  outside-way e b = idle-way nobody e (leaf-outside t v point b)
+  outside_way e b = idle_way nobody e (leaf_outside t v point b)
 
-  looked-way : pending_now s ≡ Idle → in_box t point ≡ true → served ≡ draw_for s sent received (rule_at t (leaf_of (embed_tree t) point)).action mode draw
+  looked_way : pending_now s ≡ Idle → in_box t point ≡ true → served ≡ draw_for s sent received (rule_at t (leaf_of (embed_tree t) point)).action mode draw
   unfolding look_up
-  looked-way e b = idle-way (leaf (leaf_of (embed_tree t) point)) e (leaf_inside t v point b)
+  looked_way e b = idle_way (leaf (leaf_of (embed_tree t) point)) e (leaf_inside t v point b)
 
-  missing-way : pending_now s ≡ Idle → in_box t point ≡ true → draw_fails mode draw ≡ true → served ≡ refuse 5 s
-  missing-way e b d = looked-way e b ∙ draw-fails s sent received _ mode draw d
+  missing_way : pending_now s ≡ Idle → in_box t point ≡ true → draw_fails mode draw ≡ true → served ≡ refuse 5 s
+  missing_way e b d = looked_way e b ∙ draw_fails_lem s sent received _ mode draw d
 
   taken-way :
       pending_now s ≡ Idle → in_box t point ≡ true → draw_fails mode draw ≡ false → Drew s sent received (rule_at t (leaf_of (embed_tree t) point)).action served
   taken-way e b d =
-      let w = draw-serves s sent received (rule_at t (leaf_of (embed_tree t) point)).action mode draw d in
-      record { next = w.next; is = looked-way e b ∙ w.is }
+      let w = draw_serves s sent received (rule_at t (leaf_of (embed_tree t) point)).action mode draw d in
+      record { next = w.next; is = looked_way e b ∙ w.is }
 
   -- which ways refuse, and with what
   refusal : (n : ℕ) → served.refused ≡ n → n ≢ 0 → ((n ≡ 22) × Outside s t point) ⊎ ((n ≡ 5) × Undrawn s t point draw)
@@ -104,23 +104,23 @@ module _ (s : PlainSender) (t : Tree) (v : ValidTree t) (sent received : Float) 
       count o e = sym r ∙ ap (λ (x : Reaction). x.refused) e
 
       go : (p : Pending) → pending_now s ≡ p → (b : Bool) → in_box t point ≡ b → (d : Bool) → draw_fails mode draw ≡ d → Answer
-      go (Repeat m a) e b f d g = absurd (z (count _ (repeat-way m a e)))
-      go Idle e false f d g = ◌⊎◌.inl (count _ (outside-way e f), (e, f))
-      go Idle e true f true g = ◌⊎◌.inr (count _ (missing-way e f g), (e, (f, g)))
+      go (Repeat m a) e b f d g = absurd (z (count _ (repeat_way m a e)))
+      go Idle e false f d g = ◌⊎◌.inl (count _ (outside_way e f), (e, f))
+      go Idle e true f true g = ◌⊎◌.inr (count _ (missing_way e f g), (e, (f, g)))
       go Idle e true f false g = absurd (z (count _ (taken-way e f g).is))
 
-  serve-does : AckDoes s t point draw (plain_step served)
-  serve-does =
+  serve_does : AckDoes s t point draw (plain_step served)
+  serve_does =
       record {
         refused_22 = (
           λ r. ⊎_elim (λ w. w.1) (λ w. absurd (omega (arith, w.0))) (refusal 22 r (λ z. absurd (omega (arith, z)))),
-          λ w. ap (λ (o : Reaction). o.refused) (outside-way w.0 w.1),
+          λ w. ap (λ (o : Reaction). o.refused) (outside_way w.0 w.1),
         );
         refused_5 = (
           λ r. ⊎_elim (λ w. absurd (omega (arith, w.0))) (λ w. w.1) (refusal 5 r (λ z. absurd (omega (arith, z)))),
-          λ w. ap (λ (o : Reaction). o.refused) (missing-way w.0 w.1.0 w.1.1),
+          λ w. ap (λ (o : Reaction). o.refused) (missing_way w.0 w.1.0 w.1.1),
         );
-        repeated = λ n a e. subst (λ (o : Reaction). SetBy s a (plain_step o)) (sym (repeat-way n a e)) (set_by s sent received a Idle);
+        repeated = λ n a e. subst (λ (o : Reaction). SetBy s a (plain_step o)) (sym (repeat_way n a e)) (set_by s sent received a Idle);
         looked =
             λ e b d.
             let i = leaf_of (embed_tree t) point in
@@ -130,32 +130,32 @@ module _ (s : PlainSender) (t : Tree) (v : ValidTree t) (sent received : Float) 
 
 -- ---- the calls
 module _ (s : PlainSender) (t : Tree) (sent received : Float) (draw : Draw) where
-  read-way : admitted sent && admitted received ≡ true → serve s t (pending_now s) (read_as sent) (read_as received) draw ≡ react s (ack t sent received draw)
+  read_way : admitted sent && admitted received ≡ true → serve s t (pending_now s) (read_as sent) (read_as received) draw ≡ react s (ack t sent received draw)
   unfolding react
-  read-way e = rw e
+  read_way e = rw e
 
-  unread-way : admitted sent && admitted received ≡ false → react s (ack t sent received draw) ≡ refuse 1 s
+  unread_way : admitted sent && admitted received ≡ false → react s (ack t sent received draw) ≡ refuse 1 s
   unfolding react
-  unread-way e = rw e
+  unread_way e = rw e
 
   module _ (v : ValidTree t) where
-    ack-does : admitted sent && admitted received ≡ true → AckDoes s t (ack_point s (read_as sent) (read_as received)) draw (plain_step (react s (ack t sent received draw)))
-    ack-does e =
-        subst (λ (o : Reaction). AckDoes s t (ack_point s (read_as sent) (read_as received)) draw (plain_step o)) (read-way e)
-        (serve-does s t v (read_as sent) (read_as received) draw)
+    ack_does : admitted sent && admitted received ≡ true → AckDoes s t (ack_point s (read_as sent) (read_as received)) draw (plain_step (react s (ack t sent received draw)))
+    ack_does e =
+        subst (λ (o : Reaction). AckDoes s t (ack_point s (read_as sent) (read_as received)) draw (plain_step o)) (read_way e)
+        (serve_does s t v (read_as sent) (read_as received) draw)
 
     -- 1 exactly where a moment is not admitted
-    unread-only : (react s (ack t sent received draw)).refused ≡ 1 → admitted sent && admitted received ≡ false
-    unread-only r = go (admitted sent && admitted received) refl
+    unread_only : (react s (ack t sent received draw)).refused ≡ 1 → admitted sent && admitted received ≡ false
+    unread_only r = go (admitted sent && admitted received) refl
       where
         go : (b : Bool) → admitted sent && admitted received ≡ b → b ≡ false
         go true e =
             ⊎_elim (λ w. absurd (omega (arith, w.0))) (λ w. absurd (omega (arith, w.0)))
-            (refusal s t v (read_as sent) (read_as received) draw 1 (ap (λ (o : Reaction). o.refused) (read-way e) ∙ r) (λ z. absurd (omega (arith, z))))
+            (refusal s t v (read_as sent) (read_as received) draw 1 (ap (λ (o : Reaction). o.refused) (read_way e) ∙ r) (λ z. absurd (omega (arith, z))))
         go false e = refl
 
-    pub plain-ack : AckHolds s t sent received draw (plain_step (react s (ack t sent received draw)))
-    plain-ack = record { unread = (unread-only, λ e. ap (λ (o : Reaction). o.refused) (unread-way e)); does = ack-does }
+    pub plain_ack : AckHolds s t sent received draw (plain_step (react s (ack t sent received draw)))
+    plain_ack = record { unread = (unread_only, λ e. ap (λ (o : Reaction). o.refused) (unread_way e)); does = ack_does }
 
 -- ---- a send and a tick
 pub plain_send : (s : PlainSender) (at : Float) → SendHolds at (plain_step (react s (send at)))

@@ -21,14 +21,14 @@ use Rattle.rule_tree.specs.Walk.{leaf_of}
 use Rattle.rule_tree.specs.Calls.{found_in}
 use Rattle.rule_tree.proofs.Owners.{same_or_not}
 use Rattle.rule_tree.proofs.CubeSteps.{root_cube, step_cube}
-use Rattle.rule_tree_laws.proofs.Partition.{InOneLeaf, InNone, grown-one-leaf, grown-none}
+use Rattle.rule_tree_laws.proofs.Partition.{InOneLeaf, InNone, grown_one_leaf, grown_none}
 use Rattle.promise.specs.PlainTree.{Tree, nodes, member, is_leaf_of, rule_at, from, those, Choice, nobody, leaf}
 use Rattle.promise.specs.PlainSender.{cube_in, holding, leaf_at}
 use Rattle.promise.specs.SenderRuns.{OneLeaf}
 use Rattle.promise.proofs.Links.{no}
-use Rattle.promise.proofs.Embed.{embed_tree, ValidTree, leaf_below, leaf-unsplit, leaf_from, embed_length}
-use Rattle.promise.proofs.TreeGrown.{grown-embeds, splits-embed}
-use Rattle.promise.proofs.TreeKeeps.{children-is, leaf-node}
+use Rattle.promise.proofs.Embed.{embed_tree, ValidTree, leaf_below, leaf_unsplit, leaf_from, embed_length}
+use Rattle.promise.proofs.TreeGrown.{grown_embeds, splits_embed}
+use Rattle.promise.proofs.TreeKeeps.{children_is, leaf_node_lem}
 
 -- ---- cubes: two lists of n splits that agree give the same cubes
 cubes_same :
@@ -40,16 +40,16 @@ cubes_same n ps qs root h low (suc d) i l =
     ⊎_elim (λ (z : i ≡ 0). root_cube (suc d) ps root i z ∙ sym (root_cube (suc d) qs root i z))
     (λ (m : i ≡ 0 → ⊥).
     let k = (i - 1) / 8 in
-    let b : k < n = split-made i m l in
+    let b : k < n = split_made i m l in
     step_cube d ps root i m
     ∙ ap (λ (c : Cube). child_cube c ((i - 1) % 8)) (cubes_same n ps qs root h low d (get_or ps k 0) (omega (arith, low k b)))
     ∙ ap (λ (j : ℕ). child_cube (cube_at d qs root j) ((i - 1) % 8)) (h k b)
     ∙ sym (step_cube d qs root i m))
     (same_or_not i 0)
   where
-    split-made : (i : ℕ) → (i ≡ 0 → ⊥) → i < 1 + 8 * n → (i - 1) / 8 < n
-    split-made zero m l = absurd (m refl)
-    split-made (suc i) m l = omega arith
+    split_made : (i : ℕ) → (i ≡ 0 → ⊥) → i < 1 + 8 * n → (i - 1) / 8 < n
+    split_made zero m l = absurd (m refl)
+    split_made (suc i) m l = omega arith
 
 -- ---- the first leaf whose cube holds p, among n nodes from a on
 abbrev in_cube : Tree → Point → ℕ → Bool
@@ -83,8 +83,8 @@ module _ (t : Tree) (p : Point) where
       go true k h = held (in_cube t p a) k refl h
       go false k h = later a n (holding t p rest) (λ y. absurd (no (is_leaf_of t a) y k)) h
 
-  pub leaf-says : Says t p 0 (nodes t) (leaf_at t p)
-  leaf-says = says (nodes t) 0
+  pub leaf_says : Says t p 0 (nodes t) (leaf_at t p)
+  leaf_says = says (nodes t) 0
 
 -- what lookup answers for a choice
 unfoldable pub looked_at : Tree → Choice → Looked
@@ -92,40 +92,40 @@ looked_at t nobody = looked.Nothing
 looked_at t (leaf i) = looked.Found (rule_at t i).action
 
 module _ (t : Tree) (v : ValidTree t) where
-  pub cube-embeds : (i : ℕ) → i < nodes t → cube_in t i ≡ cube_of (embed_tree t) i
-  cube-embeds i l =
+  pub cube_embeds : (i : ℕ) → i < nodes t → cube_in t i ≡ cube_of (embed_tree t) i
+  cube_embeds i l =
       let qs = split_nodes (children_of (embed_tree t).nodes) in
       cubes_same (length t.splits) t.splits qs (root_of t.ends)
-      (λ k b. ap (λ (ps : List ℕ). get_or ps k 0) (sym (splits-embed t v)) ∙ get_or-take (length t.splits) qs k 0 b)
+      (λ k b. ap (λ (ps : List ℕ). get_or ps k 0) (sym (splits_embed t v)) ∙ get_or-take (length t.splits) qs k 0 b)
       v.grew i i l
 
   module _ (p : Point) where
-    one-leaf : contains_of (root_of t.ends) p ≡ true → InOneLeaf (embed_tree t) p
-    one-leaf e = grown-one-leaf (embed_tree t) (grown-embeds t v) (embed_length t) v.floats p e
+    one_leaf : contains_of (root_of t.ends) p ≡ true → InOneLeaf (embed_tree t) p
+    one_leaf e = grown_one_leaf (embed_tree t) (grown_embeds t v) (embed_length t) v.floats p e
 
     none : contains_of (root_of t.ends) p ≡ false → InNone (embed_tree t) p
-    none e = grown-none (embed_tree t) (grown-embeds t v) (embed_length t) v.floats p e
+    none e = grown_none (embed_tree t) (grown_embeds t v) (embed_length t) v.floats p e
 
-    cube-holds : (i : ℕ) → i < nodes t → contains_of (cube_of (embed_tree t) i) p ≡ in_cube t p i
-    cube-holds i l = ap (λ (c : Cube). contains_of c p) (sym (cube-embeds i l))
+    cube_holds : (i : ℕ) → i < nodes t → contains_of (cube_of (embed_tree t) i) p ≡ in_cube t p i
+    cube_holds i l = ap (λ (c : Cube). contains_of c p) (sym (cube_embeds i l))
 
     -- the leaf that lookup reaches
     pub reached : contains_of (root_of t.ends) p ≡ true → OneLeaf t p (leaf_of (embed_tree t) p)
     reached e =
-        let o = one-leaf e in
+        let o = one_leaf e in
         let i = leaf_of (embed_tree t) p in
-        let m : not (member i t.splits) ≡ true = sym (children-is t v i o.node) ∙ o.leaf in
+        let m : not (member i t.splits) ≡ true = sym (children_is t v i o.node) ∙ o.leaf in
         record {
           leaf = leaf_from t i o.node (not-true (member i t.splits) m);
-          inside = sym (cube-holds i o.node) ∙ o.inside;
+          inside = sym (cube_holds i o.node) ∙ o.inside;
           only = λ j k f.
               let l : j < nodes t = leaf_below t j k in
-              o.only j l (children-is t v j l ∙ ap not (leaf-unsplit t j k)) (cube-holds j l ∙ f);
+              o.only j l (children_is t v j l ∙ ap not (leaf_unsplit t j k)) (cube_holds j l ∙ f);
         }
 
     -- "each point of the box": its leaf is found
     pub leaf_inside : contains_of (root_of t.ends) p ≡ true → leaf_at t p ≡ leaf (leaf_of (embed_tree t) p)
-    leaf_inside e = go (leaf_at t p) (leaf-says t p)
+    leaf_inside e = go (leaf_at t p) (leaf_says t p)
       where
         go : (c : Choice) → Says t p 0 (nodes t) c → c ≡ leaf (leaf_of (embed_tree t) p)
         go nobody h =
@@ -134,18 +134,18 @@ module _ (t : Tree) (v : ValidTree t) where
             absurd (no (in_cube t p i) r.inside (h i (omega arith) (omega (arith, leaf_below t i r.leaf)) r.leaf))
         go (leaf j) h = ap leaf ((reached e).only j h.0 h.1)
 
-    pub leaf-outside : contains_of (root_of t.ends) p ≡ false → leaf_at t p ≡ nobody
-    leaf-outside e = go (leaf_at t p) (leaf-says t p)
+    pub leaf_outside : contains_of (root_of t.ends) p ≡ false → leaf_at t p ≡ nobody
+    leaf_outside e = go (leaf_at t p) (leaf_says t p)
       where
         go : (c : Choice) → Says t p 0 (nodes t) c → c ≡ nobody
         go nobody h = refl
         go (leaf j) h =
             let l = leaf_below t j h.0 in
-            absurd (no (in_cube t p j) h.1 (sym (cube-holds j l) ∙ (none e).none j l))
+            absurd (no (in_cube t p j) h.1 (sym (cube_holds j l) ∙ (none e).none j l))
 
     -- nobody exactly where the point is outside the root box
-    pub nobody-outside : leaf_at t p ≡ nobody → contains_of (root_of t.ends) p ≡ false
-    nobody-outside h = go (contains_of (root_of t.ends) p) refl
+    pub nobody_outside : leaf_at t p ≡ nobody → contains_of (root_of t.ends) p ≡ false
+    nobody_outside h = go (contains_of (root_of t.ends) p) refl
       where
         go : (b : Bool) → contains_of (root_of t.ends) p ≡ b → b ≡ false
         go true e =
@@ -163,17 +163,17 @@ module _ (t : Tree) (v : ValidTree t) where
             let z : leaf_of (embed_tree t) p ≡ i = cc in
             subst (OneLeaf t p) z (reached e)
         go false e =
-            let q : leaf i ≡ nobody = sym h ∙ leaf-outside e in
+            let q : leaf i ≡ nobody = sym h ∙ leaf_outside e in
             absurd (let z : ◌≡◌ {A = ℕ} 0 1 = cc in omega arith)
 
     -- lookup finds that leaf's action, or nothing
-    pub found-embeds : found_in (embed_tree t) p ≡ looked_at t (leaf_at t p)
+    pub found_embeds : found_in (embed_tree t) p ≡ looked_at t (leaf_at t p)
     unfolding looked_at
-    found-embeds = go (contains_of (root_of t.ends) p) refl
+    found_embeds = go (contains_of (root_of t.ends) p) refl
       where
         go : (b : Bool) → contains_of (root_of t.ends) p ≡ b → found_in (embed_tree t) p ≡ looked_at t (leaf_at t p)
         go true e =
-            (one-leaf e).found
-            ∙ ap (λ (x : Node). looked.Found (action_in x)) (leaf-node t v (leaf_of (embed_tree t) p) (reached e).leaf)
+            (one_leaf e).found
+            ∙ ap (λ (x : Node). looked.Found (action_in x)) (leaf_node_lem t v (leaf_of (embed_tree t) p) (reached e).leaf)
             ∙ ap (looked_at t) (sym (leaf_inside e))
-        go false e = (none e).nothing ∙ ap (looked_at t) (sym (leaf-outside e))
+        go false e = (none e).nothing ∙ ap (looked_at t) (sym (leaf_outside e))

@@ -127,34 +127,34 @@ module _ (s : PlainSender) (sent received : Float) where
   abbrev pub known : Sender
   known = remembered (state_of s) (moment sent) (moment received)
 
-  ack-average : average_after s.start.ack_ewma s.start.last_ack (receiveds s ++ (received ∷ [])) ≡ known.ack_ewma
-  ack-average = average_more s.start.ack_ewma s.start.last_ack (receiveds s) received
+  ack_average_lem : average_after s.start.ack_ewma s.start.last_ack (receiveds s ++ (received ∷ [])) ≡ known.ack_ewma
+  ack_average_lem = average_more s.start.ack_ewma s.start.last_ack (receiveds s) received
 
-  send-average : average_after s.start.send_ewma s.start.last_ack_send (sents s ++ (sent ∷ [])) ≡ known.send_ewma
-  send-average = average_more s.start.send_ewma s.start.last_ack_send (sents s) sent
+  send_average_lem : average_after s.start.send_ewma s.start.last_ack_send (sents s ++ (sent ∷ [])) ≡ known.send_ewma
+  send_average_lem = average_more s.start.send_ewma s.start.last_ack_send (sents s) sent
 
-  round-trips : trips_after s.start.rtt (rounds s ++ (sub binary64 received sent ∷ [])) ≡ known.rtt
-  round-trips = trips_more s.start.rtt (rounds s) (sub binary64 received sent)
+  round_trips : trips_after s.start.rtt (rounds s ++ (sub binary64 received sent ∷ [])) ≡ known.rtt
+  round_trips = trips_more s.start.rtt (rounds s) (sub binary64 received sent)
 
   -- "An ack's point is made from the start, the taken acks .. before it and the ack itself"
-  pub point-renders : ack_point s sent received ≡ memory.point_of known
-  point-renders =
-      point_parts _ _ _ _ _ _ (ap amount ack-average ∙ amount_same known.ack_ewma) (ap amount send-average ∙ amount_same known.send_ewma)
-      (ap ratio_of round-trips ∙ ratio_same known.rtt)
+  pub point_renders : ack_point s sent received ≡ memory.point_of known
+  point_renders =
+      point_parts _ _ _ _ _ _ (ap amount ack_average_lem ∙ amount_same known.ack_ewma) (ap amount send_average_lem ∙ amount_same known.send_ewma)
+      (ap ratio_of round_trips ∙ ratio_same known.rtt)
 
   -- the ack's action sets window and wait, and uses the repeat up or leaves one pending
-  pub ack-renders :
+  pub ack_renders :
       (a : Action) (next : Pending)
       → let x : TakenAck = record { sent = sent; received = received; action = a; next = next } in
       state_of (with_ack s x) ≡ paced known a (pending_next (pending_now s) x)
-  ack-renders a next =
+  ack_renders a next =
       let x : TakenAck = record { sent = sent; received = received; action = a; next = next } in
       sender_parts _ _ _ _ _ _ _ _ _ _ _ _ _ _ _ _ _ _
       (ap (last_after s.start.last_ack) (map_more (λ (y : TakenAck). y.received) s.history x) ∙ last_more s.start.last_ack (receiveds s) received)
       (ap (last_after s.start.last_ack_send) (map_more (λ (y : TakenAck). y.sent) s.history x) ∙ last_more s.start.last_ack_send (sents s) sent)
-      (ap (average_after s.start.ack_ewma s.start.last_ack) (map_more (λ (y : TakenAck). y.received) s.history x) ∙ ack-average)
-      (ap (average_after s.start.send_ewma s.start.last_ack_send) (map_more (λ (y : TakenAck). y.sent) s.history x) ∙ send-average)
-      (ap (trips_after s.start.rtt) (map_more round_trip s.history x) ∙ round-trips)
+      (ap (average_after s.start.ack_ewma s.start.last_ack) (map_more (λ (y : TakenAck). y.received) s.history x) ∙ ack_average_lem)
+      (ap (average_after s.start.send_ewma s.start.last_ack_send) (map_more (λ (y : TakenAck). y.sent) s.history x) ∙ send_average_lem)
+      (ap (trips_after s.start.rtt) (map_more round_trip s.history x) ∙ round_trips)
       (pending_more s.start.next_change s.history x)
       (window_more s.start.window s.history x)
       (wait_more s.start.intersend_delay s.history x)

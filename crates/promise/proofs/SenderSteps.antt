@@ -32,10 +32,10 @@ use Rattle.sender.specs.SenderCall.{SenderCall, ack, send, tick}
 use Rattle.promise.specs.PlainTree.{Tree, Choice, nobody, leaf, rule_at}
 use Rattle.promise.specs.PlainSender.{TakenAck, PlainSender, pending_next, pending_now, window_held, state_of, leaf_at, clips, Reaction, refuse, answered_with, answered, admitted, read_as, take, draw_fails, draw_leaves, draw_for, look_up, ack_point, serve, stand_with, react}
 use Rattle.promise.proofs.Embed.{embed_tree, ValidTree}
-use Rattle.promise.proofs.TreeGrown.{grown-embeds}
-use Rattle.promise.proofs.SenderRender.{known, with_ack, shown_same, repeat_same, point-renders, ack-renders}
+use Rattle.promise.proofs.TreeGrown.{grown_embeds}
+use Rattle.promise.proofs.SenderRender.{known, with_ack, shown_same, repeat_same, point_renders, ack_renders}
 use Rattle.promise.proofs.Clipped.{clips_rule}
-use Rattle.promise.proofs.SenderLeaf.{looked_at, found-embeds}
+use Rattle.promise.proofs.SenderLeaf.{looked_at, found_embeds}
 
 -- what the sender's calls answer for a reaction: its refusal's number, or the sender with the window and the flag
 abbrev pub held_of : Reaction → Held
@@ -74,39 +74,39 @@ reply_cond false o p = refl
 
 -- ---- an ack at moments that were read
 module _ (s : PlainSender) (sent received : Float) where
-  abbrev ackBy : Action → Pending → TakenAck
-  ackBy a next = record { sent = sent; received = received; action = a; next = next }
+  abbrev ack_by : Action → Pending → TakenAck
+  ack_by a next = record { sent = sent; received = received; action = a; next = next }
 
-  take-reply : (a : Action) (next : Pending) → settled (known s sent received) a (pending_next (pending_now s) (ackBy a next)) ≡ reply_of (take s sent received a next)
-  take-reply a next =
+  take_reply : (a : Action) (next : Pending) → settled (known s sent received) a (pending_next (pending_now s) (ack_by a next)) ≡ reply_of (take s sent received a next)
+  take_reply a next =
       let c = clips a (window_held s) in
-      ap (λ (b : Bool). Taken (held_with b (paced (known s sent received) a (pending_next (pending_now s) (ackBy a next))))) (sym (clips_rule a (window_held s)))
-      ∙ ap (λ (m : Sender). Taken (held_with c m)) (sym (ack-renders s sent received a next)) ∙ answered_reply c (with_ack s (ackBy a next))
+      ap (λ (b : Bool). Taken (held_with b (paced (known s sent received) a (pending_next (pending_now s) (ack_by a next))))) (sym (clips_rule a (window_held s)))
+      ∙ ap (λ (m : Sender). Taken (held_with c m)) (sym (ack_renders s sent received a next)) ∙ answered_reply c (with_ack s (ack_by a next))
 
   -- with nothing pending, a draw's repeat is what comes next
-  idle-reply : pending_now s ≡ Idle → (a : Action) (next : Pending) → settled (known s sent received) a next ≡ reply_of (take s sent received a next)
+  idle_reply : pending_now s ≡ Idle → (a : Action) (next : Pending) → settled (known s sent received) a next ≡ reply_of (take s sent received a next)
   unfolding pending_next
-  idle-reply e a next =
-      ap (settled (known s sent received) a) (sym (ap (λ (p : Pending). pending_next p (ackBy a next)) e)) ∙ take-reply a next
+  idle_reply e a next =
+      ap (settled (known s sent received) a) (sym (ap (λ (p : Pending). pending_next p (ack_by a next)) e)) ∙ take_reply a next
 
-  repeat-reply : (n : ℕ) (a : Action) → pending_now s ≡ Repeat n a → settled (known s sent received) a (repeat_next n a) ≡ reply_of (take s sent received a Idle)
-  repeat-reply n a e =
-      ap (settled (known s sent received) a) (sym (ap (λ (p : Pending). pending_next p (ackBy a Idle)) e ∙ repeat_same n a (ackBy a Idle)))
-      ∙ take-reply a Idle
+  repeat_reply : (n : ℕ) (a : Action) → pending_now s ≡ Repeat n a → settled (known s sent received) a (repeat_next n a) ≡ reply_of (take s sent received a Idle)
+  repeat_reply n a e =
+      ap (settled (known s sent received) a) (sym (ap (λ (p : Pending). pending_next p (ack_by a Idle)) e ∙ repeat_same n a (ack_by a Idle)))
+      ∙ take_reply a Idle
 
   drawn-reply :
       pending_now s ≡ Idle → (a : Action) (m : RepeatMode) (draw : Draw)
       → ack_drawn (known s sent received) a (drawn m draw a) ≡ reply_of (draw_for s sent received a m draw)
   unfolding ack_drawn drawn draw_fails draw_leaves
-  drawn-reply e a Off draw = idle-reply e a Idle
-  drawn-reply e a (Always n) draw = idle-reply e a (Repeat n a)
+  drawn-reply e a Off draw = idle_reply e a Idle
+  drawn-reply e a (Always n) draw = idle_reply e a (Repeat n a)
   drawn-reply e a (Between lo hi) Absent = sym (reply_5 s)
   drawn-reply e a (Between lo hi) (Given n) = go (leb lo n && leb n hi)
     where
       go :
           (b : Bool)
           → ack_drawn (known s sent received) a (cond b (Next (Repeat n a)) Missing) ≡ reply_of (cond (not b) (refuse 5 s) (take s sent received a (Repeat n a)))
-      go true = idle-reply e a (Repeat n a)
+      go true = idle_reply e a (Repeat n a)
       go false = sym (reply_5 s)
 
   looked-reply :
@@ -117,12 +117,12 @@ module _ (s : PlainSender) (sent received : Float) where
   looked-reply e t (leaf i) draw = drawn-reply e (rule_at t i).action s.start.repeat_actions draw
 
   module _ (t : Tree) (v : ValidTree t) (draw : Draw) where
-    serve-reply : (p : Pending) → pending_now s ≡ p → ack_pending (embed_tree t) (known s sent received) p draw ≡ reply_of (serve s t p sent received draw)
+    serve_reply : (p : Pending) → pending_now s ≡ p → ack_pending (embed_tree t) (known s sent received) p draw ≡ reply_of (serve s t p sent received draw)
     unfolding ack_pending serve
-    serve-reply (Repeat n a) e = repeat-reply n a e
-    serve-reply Idle e =
-        ap (λ (q : Point). ack_with (known s sent received) (found_in (embed_tree t) q) draw) (sym (point-renders s sent received))
-        ∙ ap (λ (x : Looked). ack_with (known s sent received) x draw) (found-embeds t v (ack_point s sent received))
+    serve_reply (Repeat n a) e = repeat_reply n a e
+    serve_reply Idle e =
+        ap (λ (q : Point). ack_with (known s sent received) (found_in (embed_tree t) q) draw) (sym (point_renders s sent received))
+        ∙ ap (λ (x : Looked). ack_with (known s sent received) x draw) (found_embeds t v (ack_point s sent received))
         ∙ looked-reply e t (leaf_at t (ack_point s sent received)) draw
 
 -- ---- the calls
@@ -146,9 +146,9 @@ ack_step t v s sent received draw =
     let x = moment (read_as sent) in
     let y = moment (read_as received) in
     let both = admitted sent && admitted received in
-    grown_ack (embed_tree t) (state_of s) sent received draw (grown-embeds t v)
+    grown_ack (embed_tree t) (state_of s) sent received draw (grown_embeds t v)
     ∙ admitted_reply (embed_tree t) (state_of s) (admitted sent) (admitted received) x y draw
-    ∙ ap (λ (r : Reply). cond both r (Refused 1)) (serve-reply s (read_as sent) (read_as received) t v draw (pending_now s) refl)
+    ∙ ap (λ (r : Reply). cond both r (Refused 1)) (serve_reply s (read_as sent) (read_as received) t v draw (pending_now s) refl)
     ∙ ap (λ (r : Reply). cond both (reply_of (serve s t (pending_now s) (read_as sent) (read_as received) draw)) r) (sym (reply_1 s))
     ∙ sym (reply_cond both (serve s t (pending_now s) (read_as sent) (read_as received) draw) (refuse 1 s))
 

@@ -19,11 +19,11 @@ use Rattle.promise.specs.PlainTrainer.{State, Phase, Kept, nothing, just, phase1
 use Rattle.promise.specs.Values.{FitCall}
 use Rattle.promise.proofs.Embed.{ValidTree, leaf_below}
 use Rattle.promise.proofs.TreeSteps.{no_rule}
-use Rattle.promise.proofs.TreeKeeps.{split-valid, action_valid, mark-valid, clear_valid}
-use Rattle.promise.proofs.MostUsed.{chosen-leaf, chosen-unmarked}
+use Rattle.promise.proofs.TreeKeeps.{split_valid, action_valid, mark_valid, clear_valid}
+use Rattle.promise.proofs.MostUsed.{chosen_leaf_lem, chosen_unmarked}
 use Rattle.promise.proofs.Candidates.{candidate_valid}
-use Rattle.promise.proofs.Begins.{round-valid}
-use Rattle.promise.proofs.AnswerChange.{changed-valid}
+use Rattle.promise.proofs.Begins.{round_valid}
+use Rattle.promise.proofs.AnswerChange.{changed_valid}
 use Rattle.promise.proofs.States.{Splitting, Tuning, AtLeaf, KeptHolds, ValidState}
 
 -- ---- counts
@@ -36,7 +36,7 @@ split_keeps st v xs then h (leaf b) e = go (ltb (length st.tree.splits) 64) refl
   where
     go : (z : Bool) → ltb (length st.tree.splits) 64 ≡ z → ValidState (cond z (become (then (split st.tree b))) (refuse 20 st)).state
     go true p =
-        h (split st.tree b) (split-valid st.tree v.tree b (chosen-leaf st.tree xs b e) (ltb-true (length st.tree.splits) 64 p)) refl
+        h (split st.tree b) (split_valid st.tree v.tree b (chosen_leaf_lem st.tree xs b e) (ltb-true (length st.tree.splits) 64 p)) refl
     go false p = v
 
 module _ (s : Settings) (g : settings_hold s ≡ true) (t : Tree) (v : ValidTree t) (b : t.ends ≡ s.ends) (i r : ℕ) (xs : List ℕ) where
@@ -48,7 +48,7 @@ module _ (s : Settings) (g : settings_hold s ≡ true) (t : Tree) (v : ValidTree
     where
       go : (u : Tree) → ValidTree u → u.ends ≡ s.ends → (z : Bool) → ValidState (cond z (at s u i r phase2) (begin_round s u i r))
       go u w e true = record { settings = g; tree = w; box = e; phase = h }
-      go u w e false = round-valid s g u w e i r h.stage
+      go u w e false = round_valid s g u w e i r h.stage
 
   keeps2 : Splitting s i r → ValidState (answer2 (at s t i r phase2) xs).state
   keeps2 h = go (ltb 1 (used xs))
@@ -56,21 +56,21 @@ module _ (s : Settings) (g : settings_hold s ≡ true) (t : Tree) (v : ValidTree
       go :
           (z : Bool)
           → ValidState (cond z (become (begin_round s t i r)) (split_chosen (at s t i r phase2) (most_used xs (leaves t)) (λ u. at s u i r phase2))).state
-      go true = round-valid s g t v b i r h.stage
+      go true = round_valid s g t v b i r h.stage
       go false =
           split_keeps (at s t i r phase2) (record { settings = g; tree = v; box = b; phase = h }) xs (λ u. at s u i r phase2)
           (λ u w e. record { settings = g; tree = w; box = e ∙ b; phase = h }) (most_used xs (leaves t)) refl
 
   keeps3 : Tuning s i r → (c : Choice) → most_used xs (unmarked_leaves t) ≡ c → ValidState (answer3 (at s t i r phase3) xs c)
   unfolding answer3
-  keeps3 h nobody e = round-valid s g (clear_marks t) (clear_valid t v) b i (r + 1) h.stage
+  keeps3 h nobody e = round_valid s g (clear_marks t) (clear_valid t v) b i (r + 1) h.stage
   keeps3 h (leaf l) e = go (eqb (get_or xs l 0) 0 && not (eqb (sum xs) 0))
     where
       found : is_leaf_of t l && not (rule_at t l).marked ≡ true
-      found = chosen-unmarked t xs l e
+      found = chosen_unmarked t xs l e
 
       go : (z : Bool) → ValidState (cond z (begin_round s (clear_marks t) i (r + 1)) (at s t i r (phase4 l)))
-      go true = round-valid s g (clear_marks t) (clear_valid t v) b i (r + 1) h.stage
+      go true = round_valid s g (clear_marks t) (clear_valid t v) b i (r + 1) h.stage
       go false =
           record {
             settings = g;
@@ -104,14 +104,14 @@ counted_valid st v xs = counted_in_lem st.settings st.tree st.stage st.round st.
 
 -- ---- scores
 module _ (s : Settings) (g : settings_hold s ≡ true) (i r : ℕ) (h : Tuning s i r) (u : Tree) (p : Phase) where
-  try-keeps : (t : Tree) → ValidTree t → t.ends ≡ s.ends → (l : ℕ) → AtLeaf t l → (best : Float) → ValidState (try_all (at s u i r p) t l best)
+  try_keeps : (t : Tree) → ValidTree t → t.ends ≡ s.ends → (l : ℕ) → AtLeaf t l → (best : Float) → ValidState (try_all (at s u i r p) t l best)
   unfolding try_all
-  try-keeps t v d l a best = go (eqb (length (improvements s (rule_at t l).action)) 0) refl
+  try_keeps t v d l a best = go (eqb (length (improvements s (rule_at t l).action)) 0) refl
     where
       go :
           (z : Bool) → eqb (length (improvements s (rule_at t l).action)) 0 ≡ z
           → ValidState (cond z (at s (mark t l) i r phase3) (at s t i r (phase5 l best 0 nothing)))
-      go true e = record { settings = g; tree = mark-valid t v l a.leaf; box = d; phase = h }
+      go true e = record { settings = g; tree = mark_valid t v l a.leaf; box = d; phase = h }
       go false e =
           let n = eqb-false (length (improvements s (rule_at t l).action)) 0 e in
           let c : 0 < length (improvements s (rule_at t l).action) = omega arith in
@@ -133,21 +133,21 @@ keep_holds best k x (just j y) h = go (lt best x && le y x) refl
 module _
     (s : Settings) (g : settings_hold s ≡ true) (t : Tree) (v : ValidTree t) (d : t.ends ≡ s.ends) (i r : ℕ) (h : Tuning s i r) (l : ℕ) (a : AtLeaf t l)
     (best : Float) (k : ℕ) (b : k < length (improvements s (rule_at t l).action)) (p : Phase) where
-  rule-set : (c : Action) → rule_at (set_action t l c) l ≡ record { action = c; marked = (rule_at t l).marked }
-  rule-set c = get_or-set_same t.rules l _ no_rule (omega (arith, leaf_below t l a.leaf, v.sized))
+  rule_set : (c : Action) → rule_at (set_action t l c) l ≡ record { action = c; marked = (rule_at t l).marked }
+  rule_set c = get_or-set_same t.rules l _ no_rule (omega (arith, leaf_below t l a.leaf, v.sized))
 
-  last-keeps : (m : Kept) → KeptHolds best (k + 1) m → ValidState (after_last (at s t i r p) l m)
+  last_keeps : (m : Kept) → KeptHolds best (k + 1) m → ValidState (after_last (at s t i r p) l m)
   unfolding after_last
-  last-keeps nothing q = record { settings = g; tree = mark-valid t v l a.leaf; box = d; phase = h }
-  last-keeps (just j y) q =
+  last_keeps nothing q = record { settings = g; tree = mark_valid t v l a.leaf; box = d; phase = h }
+  last_keeps (just j y) q =
       let c = get_or (improvements s (rule_at t l).action) j no_candidate in
-      try-keeps s g i r h t p (set_action t l c)
+      try_keeps s g i r h t p (set_action t l c)
       (action_valid t v l a.leaf c (candidate_valid s (rule_at t l).action j (omega (arith, q.0)) g)) d
-      l (record { leaf = a.leaf; unmarked = ap (λ (x : Rule). x.marked) (rule-set c) ∙ a.unmarked }) y
+      l (record { leaf = a.leaf; unmarked = ap (λ (x : Rule). x.marked) (rule_set c) ∙ a.unmarked }) y
 
-  tried-keeps : (m : Kept) → KeptHolds best (k + 1) m → ValidState (answer5 (at s t i r p) l best k m)
+  tried_keeps : (m : Kept) → KeptHolds best (k + 1) m → ValidState (answer5 (at s t i r p) l best k m)
   unfolding answer5
-  tried-keeps m q = go (ltb (k + 1) (length (improvements s (rule_at t l).action))) refl
+  tried_keeps m q = go (ltb (k + 1) (length (improvements s (rule_at t l).action))) refl
     where
       go :
           (z : Bool) → ltb (k + 1) (length (improvements s (rule_at t l).action)) ≡ z
@@ -159,7 +159,7 @@ module _
             box = d;
             phase = (h, (a, record { below = ltb-true (k + 1) (length (improvements s (rule_at t l).action)) e; held = q }));
           }
-      go false e = last-keeps m q
+      go false e = last_keeps m q
 
 scored_in :
     (s : Settings) (t : Tree) (i r : ℕ) (p : Phase) → ValidState (at s t i r p) → (x : Float) → ValidState (scored (at s t i r p) x p).state
@@ -167,10 +167,10 @@ unfolding scored
 scored_in s t i r phase1 v x = v
 scored_in s t i r phase2 v x = v
 scored_in s t i r phase3 v x = v
-scored_in s t i r (phase4 l) v x = try-keeps s v.settings i r v.phase.0 t (phase4 l) t v.tree v.box l v.phase.1 x
+scored_in s t i r (phase4 l) v x = try_keeps s v.settings i r v.phase.0 t (phase4 l) t v.tree v.box l v.phase.1 x
 scored_in s t i r (phase5 l best k kept) v x =
     let q = v.phase in
-    tried-keeps s v.settings t v.tree v.box i r q.0 l q.1.0 best k q.1.1.below (phase5 l best k kept)
+    tried_keeps s v.settings t v.tree v.box i r q.0 l q.1.0 best k q.1.1.below (phase5 l best k kept)
     (keep best k x kept) (keep_holds best k x kept q.1.1.held)
 scored_in s t i r phase6 v x = v
 scored_in s t i r phase7 v x = v
@@ -183,7 +183,7 @@ pub step_valid : (st : State) → ValidState st → (c : Call) → FitCall c →
 unfolding step
 step_valid st v (counts xs) h = counted_valid st v xs
 step_valid st v (score x) h = scored_valid st v x
-step_valid st v (change s) h = changed-valid st v s (record { acks = h.ends.acks; sends = h.ends.sends; ratios = h.ends.ratios })
+step_valid st v (change s) h = changed_valid st v s (record { acks = h.ends.acks; sends = h.ends.sends; ratios = h.ends.ratios })
 step_valid st v (reload buffer) h = go (leb (length (record_bytes st)) (length buffer))
   where
     go : (z : Bool) → ValidState (cond z (record { state = st; refused = 0; saved = record_bytes st }) (refuse 9 st)).state

@@ -21,15 +21,15 @@ use Rattle.trainer.specs.Settings.{settings_hold}
 use Rattle.trainer.specs.Candidates.{candidates_of}
 use Rattle.trainer.specs.State.{none, stand, at_leaf_of, zero_bits_of, untried_in, untried, idle, leaf_action, leaf_holds, kept_in, kept_holds, try_holds_of, splitting, tuning, ending, box_holds, phase_holds, accepted_of}
 use Rattle.record.proofs.RoundTrip as stored
-use Rattle.record.proofs.StepsFit.{whole-fits}
+use Rattle.record.proofs.StepsFit.{whole_fits}
 use Rattle.promise.specs.PlainTree.{Rule}
 use Rattle.promise.specs.PlainTrainer.{State, Phase, Kept, nothing, just, phase1, phase2, phase3, phase4, phase5, phase6, phase7, at, kept_number, kept_score_of}
-use Rattle.promise.proofs.Candidates.{candidates-same}
+use Rattle.promise.proofs.Candidates.{candidates_same}
 use Rattle.promise.proofs.States.{embed_in, embed, Splitting, Tuning, Ending, AtLeaf, KeptHolds, ValidPhase, ValidState}
 use Rattle.record.proofs.Loading.{accepted_ends}
 use Rattle.promise.specs.Values.{FitSettings}
 use Rattle.promise.proofs.Fitting.{FitState, settings_fit_lem}
-use Rattle.promise.proofs.UnembedTree.{plain_tree, rule-back, leaf-back, tree-valid, tree-back}
+use Rattle.promise.proofs.UnembedTree.{plain_tree, rule_back, leaf_back, tree_valid, tree_back}
 
 -- the trainer's values are of their types, as those of every trainer that a program holds
 pub record TrainerFits (t : Trainer) : Type 0 where
@@ -100,9 +100,9 @@ record Untried (t : Trainer) : Type 0 where
   pub score : t.kept_score ≡ cube.zero
 
 module _ (t : Trainer) (f : TrainerFits t) where
-  untried-parts : untried t ≡ true → Untried t
+  untried_parts : untried t ≡ true → Untried t
   unfolding untried_in
-  untried-parts h =
+  untried_parts h =
       let r = and_right (zero_bits_of t.best) _ h in
       let q = and_right (eqb t.k 0) _ r in
       record {
@@ -112,14 +112,14 @@ module _ (t : Trainer) (f : TrainerFits t) where
         score = zero_bits t.kept_score f.score (and_right (eqb t.kept none) _ q);
       }
 
-  stand-back : (n : ℕ) → t.phase ≡ n → idle t ≡ true → t ≡ stand t.settings t.tree n t.stage t.round
-  stand-back n e h =
-      let u = untried-parts (and_right (eqb t.leaf 0) _ h) in
+  stand_back : (n : ℕ) → t.phase ≡ n → idle t ≡ true → t ≡ stand t.settings t.tree n t.stage t.round
+  stand_back n e h =
+      let u = untried_parts (and_right (eqb t.leaf 0) _ h) in
       rebuilt t n 0 cube.zero 0 none cube.zero e (eqb-true t.leaf 0 (and_left (eqb t.leaf 0) _ h)) u.best u.k u.kept u.score
 
-  asking-back : t.phase ≡ 4 → untried t ≡ true → t ≡ at_leaf_of t.settings t.tree t.stage t.round t.leaf
-  asking-back e h =
-      let u = untried-parts h in
+  asking_back : t.phase ≡ 4 → untried t ≡ true → t ≡ at_leaf_of t.settings t.tree t.stage t.round t.leaf
+  asking_back e h =
+      let u = untried_parts h in
       rebuilt t 4 t.leaf cube.zero 0 none cube.zero e refl u.best u.k u.kept u.score
 
 -- ---- the tests, part by part
@@ -156,16 +156,16 @@ module _ (t : Trainer) where
         and_right (eqb t.round 0) _ a,
       )
 
-  leaf-parts : leaf_holds t ≡ true → (leaf_in t.tree t.leaf ≡ true) × ((node_at_of t.tree.nodes t.leaf).optimized ≡ false)
+  leaf_parts : leaf_holds t ≡ true → (leaf_in t.tree t.leaf ≡ true) × ((node_at_of t.tree.nodes t.leaf).optimized ≡ false)
   unfolding leaf_holds
-  leaf-parts h = (
+  leaf_parts h = (
     and_left (leaf_in t.tree t.leaf) _ h,
     not-true (node_at_of t.tree.nodes t.leaf).optimized (and_right (leaf_in t.tree t.leaf) _ h),
   )
 
-  try-parts : try_holds_of t ≡ true → (t.k < length (candidates_of t.settings (leaf_action t))) × (kept_holds t ≡ true)
+  try_parts : try_holds_of t ≡ true → (t.k < length (candidates_of t.settings (leaf_action t))) × (kept_holds t ≡ true)
   unfolding try_holds_of
-  try-parts h =
+  try_parts h =
       let n = length (candidates_of t.settings (leaf_action t)) in
       (ltb-true t.k n (and_left (ltb t.k n) _ h), and_right (ltb t.k n) _ h)
 
@@ -262,21 +262,21 @@ phase_at t n e = ap (λ (p : ℕ). phase_of p t.leaf t.best t.k (kept_of t.kept 
 module _ (t : Trainer) (g : grown_of t.tree ≡ true) (f : TrainerFits t) where
   at_leaf : leaf_holds t ≡ true → AtLeaf (plain_tree t.tree) t.leaf
   at_leaf h =
-      let p = leaf-parts t h in
+      let p = leaf_parts t h in
       record {
-        leaf = leaf-back t.tree g f.sized t.leaf p.0;
-        unmarked = ap (λ (r : Rule). r.marked) (rule-back t.tree g t.leaf (tree.leaf_below t.tree t.leaf p.0)) ∙ p.1;
+        leaf = leaf_back t.tree g f.sized t.leaf p.0;
+        unmarked = ap (λ (r : Rule). r.marked) (rule_back t.tree g t.leaf (tree.leaf_below t.tree t.leaf p.0)) ∙ p.1;
       }
 
   shape5 : t.phase ≡ 5 → tuning t && (leaf_holds t && try_holds_of t) ≡ true → Shape t
   unfolding phase_of
   shape5 e h =
       let l = and_right (tuning t) _ h in
-      let p = leaf-parts t (and_left (leaf_holds t) _ l) in
-      let q = try-parts t (and_right (leaf_holds t) _ l) in
+      let p = leaf_parts t (and_left (leaf_holds t) _ l) in
+      let q = try_parts t (and_right (leaf_holds t) _ l) in
       let b = kept_back t.best t.k t.kept t.kept_score f.score q.1 in
       let kept = kept_of t.kept t.kept_score in
-      let r = rule-back t.tree g t.leaf (tree.leaf_below t.tree t.leaf p.0) in
+      let r = rule_back t.tree g t.leaf (tree.leaf_below t.tree t.leaf p.0) in
       record {
         phase = phase5 t.leaf t.best t.k kept;
         is = phase_at t 5 e;
@@ -286,7 +286,7 @@ module _ (t : Trainer) (g : grown_of t.tree ≡ true) (f : TrainerFits t) where
           (
             at_leaf (and_left (leaf_holds t) _ l),
             record {
-              below = rw (r, candidates-same t.settings (leaf_action t)) q.0;
+              below = rw (r, candidates_same t.settings (leaf_action t)) q.0;
               held = b.holds;
             },
           ),
@@ -299,15 +299,15 @@ module _ (t : Trainer) (g : grown_of t.tree ≡ true) (f : TrainerFits t) where
   unfolding phase_of
   shape_of (is1 e h) =
       let p = splitting_parts t h in
-      record { phase = phase1; is = phase_at t 1 e; same = stand-back t f 1 e p.1; valid = p.0 }
+      record { phase = phase1; is = phase_at t 1 e; same = stand_back t f 1 e p.1; valid = p.0 }
   shape_of (is2 e h) =
       let p = splitting_parts t h in
-      record { phase = phase2; is = phase_at t 2 e; same = stand-back t f 2 e p.1; valid = p.0 }
+      record { phase = phase2; is = phase_at t 2 e; same = stand_back t f 2 e p.1; valid = p.0 }
   shape_of (is3 e h) =
       record {
         phase = phase3;
         is = phase_at t 3 e;
-        same = stand-back t f 3 e (and_right (tuning t) _ h);
+        same = stand_back t f 3 e (and_right (tuning t) _ h);
         valid = tuning_parts t (and_left (tuning t) _ h);
       }
   shape_of (is4 e h) =
@@ -315,63 +315,63 @@ module _ (t : Trainer) (g : grown_of t.tree ≡ true) (f : TrainerFits t) where
       record {
         phase = phase4 t.leaf;
         is = phase_at t 4 e;
-        same = asking-back t f e (and_right (leaf_holds t) _ l);
+        same = asking_back t f e (and_right (leaf_holds t) _ l);
         valid = (tuning_parts t (and_left (tuning t) _ h), at_leaf (and_left (leaf_holds t) _ l));
       }
   shape_of (is5 e h) = shape5 e h
   shape_of (is6 e h) =
       let p = ending_parts t h in
-      record { phase = phase6; is = phase_at t 6 e; same = stand-back t f 6 e p.1; valid = p.0 }
+      record { phase = phase6; is = phase_at t 6 e; same = stand_back t f 6 e p.1; valid = p.0 }
   shape_of (is7 e h) =
       let p = ending_parts t h in
-      record { phase = phase7; is = phase_at t 7 e; same = stand-back t f 7 e p.1; valid = p.0 }
+      record { phase = phase7; is = phase_at t 7 e; same = stand_back t f 7 e p.1; valid = p.0 }
 
 -- ---- the accepted trainer and its plain state
 module _ (t : Trainer) (a : accepted_of t ≡ true) where
-  pub accepted-settings : settings_hold t.settings ≡ true
+  pub accepted_settings : settings_hold t.settings ≡ true
   unfolding accepted_of
-  accepted-settings = and_left (settings_hold t.settings) _ a
+  accepted_settings = and_left (settings_hold t.settings) _ a
 
-  accepted-rest : grown_of t.tree && (box_holds t && phase_holds t) ≡ true
+  accepted_rest : grown_of t.tree && (box_holds t && phase_holds t) ≡ true
   unfolding accepted_of
-  accepted-rest = and_right (settings_hold t.settings) _ a
+  accepted_rest = and_right (settings_hold t.settings) _ a
 
-  pub accepted-grown : grown_of t.tree ≡ true
-  accepted-grown = and_left (grown_of t.tree) _ accepted-rest
+  pub accepted_grown : grown_of t.tree ≡ true
+  accepted_grown = and_left (grown_of t.tree) _ accepted_rest
 
-  accepted-phase : phase_holds t ≡ true
-  accepted-phase = and_right (box_holds t) _ (and_right (grown_of t.tree) _ accepted-rest)
+  accepted_phase : phase_holds t ≡ true
+  accepted_phase = and_right (box_holds t) _ (and_right (grown_of t.tree) _ accepted_rest)
 
 module _ (t : Trainer) (a : accepted_of t ≡ true) (f : TrainerFits t) where
   shape : Shape t
-  shape = shape_of t (accepted-grown t a) f (phase_way t (accepted-phase t a))
+  shape = shape_of t (accepted_grown t a) f (phase_way t (accepted_phase t a))
 
-  pub plain-embeds : embed (plain_of t) ≡ t
-  plain-embeds =
+  pub plain_embeds : embed (plain_of t) ≡ t
+  plain_embeds =
       ap (λ (u : RuleTree). embed_in t.settings u t.stage t.round (plain_phase t))
-      (tree-back t.tree (accepted-grown t a) f.sized f.nodes)
+      (tree_back t.tree (accepted_grown t a) f.sized f.nodes)
       ∙ ap (embed_in t.settings t.tree t.stage t.round) shape.is
       ∙ sym shape.same
 
   -- all of its values are of their types, whole numbers too
   pub whole_typed : stored.TrainerFits t
   whole_typed =
-      whole-fits t a
+      whole_fits t a
       (record {
-        settings = settings_fit_lem t.settings (accepted-settings t a) f.settings;
+        settings = settings_fit_lem t.settings (accepted_settings t a) f.settings;
         tree = record { full = f.sized; ends = f.ends; actions = f.nodes };
         best = f.best;
         score = f.score;
       })
 
-  pub plain-valid : ValidState (plain_of t)
-  plain-valid =
+  pub plain_valid : ValidState (plain_of t)
+  plain_valid =
       record {
-        settings = accepted-settings t a;
-        tree = tree-valid t.tree (accepted-grown t a) f.sized f.ends;
+        settings = accepted_settings t a;
+        tree = tree_valid t.tree (accepted_grown t a) f.sized f.ends;
         box = accepted_ends t whole_typed a;
         phase = subst (ValidPhase t.settings (plain_tree t.tree) t.stage t.round) (sym shape.is) shape.valid;
       }
 
   pub plain_fits : FitState (plain_of t)
-  plain_fits = rw plain-embeds whole_typed
+  plain_fits = rw plain_embeds whole_typed

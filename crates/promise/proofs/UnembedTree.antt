@@ -22,11 +22,11 @@ use Rattle.rule_tree.proofs.Lists.{length_tabulate, get_d_tabulate}
 use Rattle.rule_tree.proofs.GrownTree.{child-at}
 use Rattle.rule_tree.proofs.GrownTree as tree
 use Rattle.rule_tree.proofs.Owners.{same_or_not}
-use Rattle.rule_tree.proofs.Plain.{ActionFits, PointFits, plain-action, plain-unmarked}
-use Rattle.rule_tree.proofs.Links.{grown-splits, grown-link, grown-split, grown-owner, grown-valid, grown-unused-leaf, grown-unused-plain, grown-ends-hold}
+use Rattle.rule_tree.proofs.Plain.{ActionFits, PointFits, plain_action, plain_unmarked}
+use Rattle.rule_tree.proofs.Links.{grown_splits, grown_link, grown_split, grown_owner, grown_valid, grown_unused_leaf, grown_unused_plain, grown_ends_hold}
 use Rattle.promise.specs.PlainTree.{Tree, Rule, nodes, member, is_leaf_of, rule_at}
 use Rattle.promise.proofs.Links.{or_right, link, link_leaf, link_owner}
-use Rattle.promise.proofs.Embed.{node_with, node_of, embed_tree, ValidTree, leaf_from, node-used, node-blank, embed-at, embed_length, nodes_same, tree_same}
+use Rattle.promise.proofs.Embed.{node_with, node_of, embed_tree, ValidTree, leaf_from, node_used, node_blank, embed_at, embed_length, nodes_same, tree_same}
 use Rattle.promise.proofs.TreeSteps.{no_rule}
 
 -- ---- lists
@@ -55,36 +55,36 @@ node_rebuilt x a c m p q r = λ j. node_holding (p j) (q j) (r j)
 
 -- a slot that is not in use
 unused_blank : (x : Node) → plain_of x ≡ true → ActionFits (action_in x) → x.children ≡ 0 → x ≡ blank_node
-unused_blank x h f e = node_rebuilt x no_action 0 false (plain-action x h f) e (plain-unmarked x h)
+unused_blank x h f e = node_rebuilt x no_action 0 false (plain_action x h f) e (plain_unmarked x h)
 
 module _ (t : RuleTree) (g : grown_of t ≡ true) where
   splits_count : length (plain_tree t).splits ≡ t.splits
   splits_count =
       let cs = children_of t.nodes in
-      length-take-le t.splits (split_nodes cs) (omega (arith, length_tabulate 64 (λ k. owner_below 513 cs (8 * k + 1)), grown-splits t g))
+      length-take-le t.splits (split_nodes cs) (omega (arith, length_tabulate 64 (λ k. owner_below 513 cs (8 * k + 1)), grown_splits t g))
 
   pub nodes_count : nodes (plain_tree t) ≡ node_count t.splits
   nodes_count = omega (arith, splits_count)
 
-  pub rule-back : (i : ℕ) → i < node_count t.splits → rule_at (plain_tree t) i ≡ rule_of (node_at_of t.nodes i)
-  rule-back i l = get_d_tabulate (node_count t.splits) i (λ i. rule_of (node_at_of t.nodes i)) no_rule l
+  pub rule_back : (i : ℕ) → i < node_count t.splits → rule_at (plain_tree t) i ≡ rule_of (node_at_of t.nodes i)
+  rule_back i l = get_d_tabulate (node_count t.splits) i (λ i. rule_of (node_at_of t.nodes i)) no_rule l
 
 module _ (t : RuleTree) (g : grown_of t ≡ true) (full : length t.nodes ≡ 513) where
   -- ---- the splits
-  split-low : (k : ℕ) → k < t.splits → get_or (plain_tree t).splits k 0 ≤ 8 * k
-  split-low k l =
+  split_low : (k : ℕ) → k < t.splits → get_or (plain_tree t).splits k 0 ≤ 8 * k
+  split_low k l =
       let cs = children_of t.nodes in
-      let o = grown-owner t g full k l in
+      let o = grown_owner t g full k l in
       omega (arith, get_or-take t.splits (split_nodes cs) k 0 l, o.split, o.low)
 
-  split-child : (k : ℕ) → k < t.splits → get_or (children_of t.nodes) (get_or (plain_tree t).splits k 0) 0 ≡ 8 * k + 1
-  split-child k l =
+  split_child : (k : ℕ) → k < t.splits → get_or (children_of t.nodes) (get_or (plain_tree t).splits k 0) 0 ≡ 8 * k + 1
+  split_child k l =
       let cs = children_of t.nodes in
-      let o = grown-owner t g full k l in
+      let o = grown_owner t g full k l in
       ap (λ (i : ℕ). get_or cs i 0) (get_or-take t.splits (split_nodes cs) k 0 l ∙ o.split) ∙ o.is
 
-  split-once : (k : ℕ) → k < t.splits → member (get_or (plain_tree t).splits k 0) (take k (plain_tree t).splits) ≡ false
-  split-once k l = go (member x (take k ps)) refl
+  split_once : (k : ℕ) → k < t.splits → member (get_or (plain_tree t).splits k 0) (take k (plain_tree t).splits) ≡ false
+  split_once k l = go (member x (take k ps)) refl
     where
       cs : List ℕ
       cs = children_of t.nodes
@@ -101,76 +101,76 @@ module _ (t : RuleTree) (g : grown_of t ≡ true) (full : length t.nodes ≡ 513
           let n = length-take-le k ps (omega (arith, splits_count t g)) in
           let b : o.at < k = omega (arith, o.below) in
           let q : get_or ps o.at 0 ≡ x = sym (get_or-take k ps o.at 0 b) ∙ o.is in
-          absurd (omega (arith, split-child o.at (omega arith), split-child k l, ap (λ (j : ℕ). get_or cs j 0) q))
+          absurd (omega (arith, split_child o.at (omega arith), split_child k l, ap (λ (j : ℕ). get_or cs j 0) q))
       go false e = refl
 
   -- ---- the nodes that were split are the parents
-  member-child : (i : ℕ) → member i (plain_tree t).splits ≡ true → link 0 (plain_tree t).splits i ≡ (node_at_of t.nodes i).children
-  member-child i m =
+  member_child : (i : ℕ) → member i (plain_tree t).splits ≡ true → link 0 (plain_tree t).splits i ≡ (node_at_of t.nodes i).children
+  member_child i m =
       let cs = children_of t.nodes in
       let o = link_owner 0 (plain_tree t).splits i m in
       let l : o.at < t.splits = omega (arith, o.below, splits_count t g) in
-      omega (arith, o.gives, split-child o.at l, ap (λ (j : ℕ). get_or cs j 0) o.is, child-at t.nodes i)
+      omega (arith, o.gives, split_child o.at l, ap (λ (j : ℕ). get_or cs j 0) o.is, child-at t.nodes i)
 
-  member-parent : (i : ℕ) → member i (plain_tree t).splits ≡ true → (node_at_of t.nodes i).children ≡ 0 → ⊥
-  member-parent i m z =
+  member_parent : (i : ℕ) → member i (plain_tree t).splits ≡ true → (node_at_of t.nodes i).children ≡ 0 → ⊥
+  member_parent i m z =
       let o = link_owner 0 (plain_tree t).splits i m in
-      omega (arith, z, o.gives, member-child i m)
+      omega (arith, z, o.gives, member_child i m)
 
-  parent-member : (i : ℕ) → i < 513 → ((node_at_of t.nodes i).children ≡ 0 → ⊥) → member i (plain_tree t).splits ≡ true
-  parent-member i b n =
+  parent_member : (i : ℕ) → i < 513 → ((node_at_of t.nodes i).children ≡ 0 → ⊥) → member i (plain_tree t).splits ≡ true
+  parent_member i b n =
       let cs = children_of t.nodes in
       let z : get_or cs i 0 ≡ 0 → ⊥ = (λ e. n (sym (child-at t.nodes i) ∙ e)) in
-      let k = grown-link t g i b z in
+      let k = grown_link t g i b z in
       let m = get_or cs i 0 / 8 in
       let l : m < t.splits = omega (arith, k.first, k.inside) in
-      let e : get_or (plain_tree t).splits m 0 ≡ i = get_or-take t.splits (split_nodes cs) m 0 l ∙ grown-split t g i b z in
+      let e : get_or (plain_tree t).splits m 0 ≡ i = get_or-take t.splits (split_nodes cs) m 0 l ∙ grown_split t g i b z in
       subst (λ (j : ℕ). member j (plain_tree t).splits ≡ true) e (member_at (plain_tree t).splits m (omega (arith, splits_count t g)))
 
-  unsplit-childless : (i : ℕ) → i < 513 → member i (plain_tree t).splits ≡ false → (node_at_of t.nodes i).children ≡ 0
-  unsplit-childless i b m =
+  unsplit_childless : (i : ℕ) → i < 513 → member i (plain_tree t).splits ≡ false → (node_at_of t.nodes i).children ≡ 0
+  unsplit_childless i b m =
       ⊎_elim (λ (z : (node_at_of t.nodes i).children ≡ 0). z)
-      (λ (n : (node_at_of t.nodes i).children ≡ 0 → ⊥). let z : ◌≡◌ {A = ℕ} 0 1 = cc (parent-member i b n) in absurd (omega arith))
+      (λ (n : (node_at_of t.nodes i).children ≡ 0 → ⊥). let z : ◌≡◌ {A = ℕ} 0 1 = cc (parent_member i b n) in absurd (omega arith))
       (same_or_not (node_at_of t.nodes i).children 0)
 
-  link-children : (i : ℕ) → i < 513 → link 0 (plain_tree t).splits i ≡ (node_at_of t.nodes i).children
-  link-children i b = go (member i (plain_tree t).splits) refl
+  link_children : (i : ℕ) → i < 513 → link 0 (plain_tree t).splits i ≡ (node_at_of t.nodes i).children
+  link_children i b = go (member i (plain_tree t).splits) refl
     where
       go : (z : Bool) → member i (plain_tree t).splits ≡ z → link 0 (plain_tree t).splits i ≡ (node_at_of t.nodes i).children
-      go true e = member-child i e
-      go false e = link_leaf 0 (plain_tree t).splits i e ∙ sym (unsplit-childless i b e)
+      go true e = member_child i e
+      go false e = link_leaf 0 (plain_tree t).splits i e ∙ sym (unsplit_childless i b e)
 
-  childless-unsplit : (i : ℕ) → (node_at_of t.nodes i).children ≡ 0 → member i (plain_tree t).splits ≡ false
-  childless-unsplit i z = go (member i (plain_tree t).splits) refl
+  childless_unsplit : (i : ℕ) → (node_at_of t.nodes i).children ≡ 0 → member i (plain_tree t).splits ≡ false
+  childless_unsplit i z = go (member i (plain_tree t).splits) refl
     where
       go : (b : Bool) → member i (plain_tree t).splits ≡ b → b ≡ false
-      go true e = absurd (member-parent i e z)
+      go true e = absurd (member_parent i e z)
       go false e = refl
 
-  pub leaf-back : (i : ℕ) → leaf_in t i ≡ true → is_leaf_of (plain_tree t) i ≡ true
-  leaf-back i h =
-      leaf_from (plain_tree t) i (omega (arith, tree.leaf_below t i h, nodes_count t g)) (childless-unsplit i (tree.leaf_childless t i h))
+  pub leaf_back : (i : ℕ) → leaf_in t i ≡ true → is_leaf_of (plain_tree t) i ≡ true
+  leaf_back i h =
+      leaf_from (plain_tree t) i (omega (arith, tree.leaf_below t i h, nodes_count t g)) (childless_unsplit i (tree.leaf_childless t i h))
 
-  node-action : (i : ℕ) → i < nodes (plain_tree t) → valid_of (rule_at (plain_tree t) i).action ≡ true
-  node-action i h =
+  node_action : (i : ℕ) → i < nodes (plain_tree t) → valid_of (rule_at (plain_tree t) i).action ≡ true
+  node_action i h =
       let l : i < node_count t.splits = omega (arith, nodes_count t g) in
-      ap (λ (r : Rule). valid_of r.action) (rule-back t g i l) ∙ grown-valid t g i l
+      ap (λ (r : Rule). valid_of r.action) (rule_back t g i l) ∙ grown_valid t g i l
 
-  pub tree-valid : PointFits t.ends → ValidTree (plain_tree t)
-  tree-valid e =
+  pub tree_valid : PointFits t.ends → ValidTree (plain_tree t)
+  tree_valid e =
       record {
-        few = omega (arith, splits_count t g, grown-splits t g);
+        few = omega (arith, splits_count t g, grown_splits t g);
         sized = length_tabulate (node_count t.splits) (λ i. rule_of (node_at_of t.nodes i)) ∙ sym (nodes_count t g);
-        grew = λ k l. split-low k (omega (arith, splits_count t g));
-        once = λ k l. split-once k (omega (arith, splits_count t g));
-        actions = node-action;
-        box = grown-ends-hold t g;
+        grew = λ k l. split_low k (omega (arith, splits_count t g));
+        once = λ k l. split_once k (omega (arith, splits_count t g));
+        actions = node_action;
+        box = grown_ends_hold t g;
         floats = e;
       }
 
   -- ---- node by node
-  node-back : (i : ℕ) → i < 513 → ActionFits (action_in (node_at_of t.nodes i)) → node_of (plain_tree t) i ≡ node_at_of t.nodes i
-  node-back i b f = go (ltb i (nodes (plain_tree t))) refl
+  node_back : (i : ℕ) → i < 513 → ActionFits (action_in (node_at_of t.nodes i)) → node_of (plain_tree t) i ≡ node_at_of t.nodes i
+  node_back i b f = go (ltb i (nodes (plain_tree t))) refl
     where
       x : Node
       x = node_at_of t.nodes i
@@ -178,18 +178,18 @@ module _ (t : RuleTree) (g : grown_of t ≡ true) (full : length t.nodes ≡ 513
       go : (y : Bool) → ltb i (nodes (plain_tree t)) ≡ y → node_of (plain_tree t) i ≡ x
       go true p =
           let l = ltb-true i (nodes (plain_tree t)) p in
-          node-used (plain_tree t) i l
-          ∙ ap (λ (r : Rule). node_with r (link 0 (plain_tree t).splits i)) (rule-back t g i (omega (arith, nodes_count t g)))
-          ∙ ap (node_with (rule_of x)) (link-children i b)
+          node_used (plain_tree t) i l
+          ∙ ap (λ (r : Rule). node_with r (link 0 (plain_tree t).splits i)) (rule_back t g i (omega (arith, nodes_count t g)))
+          ∙ ap (node_with (rule_of x)) (link_children i b)
       go false p =
           let l = ltb-false i (nodes (plain_tree t)) p in
           let u : node_count t.splits ≤ i = omega (arith, nodes_count t g) in
-          node-blank (plain_tree t) i l ∙ sym (unused_blank x (grown-unused-plain t g i u b) f (grown-unused-leaf t g i u b))
+          node_blank (plain_tree t) i l ∙ sym (unused_blank x (grown_unused_plain t g i u b) f (grown_unused_leaf t g i u b))
 
-  pub tree-back : ((i : ℕ) → i < 513 → ActionFits (action_in (node_at_of t.nodes i))) → embed_tree (plain_tree t) ≡ t
-  tree-back f =
+  pub tree_back : ((i : ℕ) → i < 513 → ActionFits (action_in (node_at_of t.nodes i))) → embed_tree (plain_tree t) ≡ t
+  tree_back f =
       tree_same (embed_tree (plain_tree t)) t
       (nodes_same (embed_tree (plain_tree t)).nodes t.nodes (embed_length (plain_tree t)) full
-      (λ i l. embed-at (plain_tree t) i l ∙ node-back i l (f i l)))
+      (λ i l. embed_at (plain_tree t) i l ∙ node_back i l (f i l)))
       (splits_count t g)
       refl

@@ -5,7 +5,6 @@ use Rattle.std.specs.Float.{nan, inf, fin, binary64}
 use Rattle.std.specs.Float.Ieee.{up, down, mul, of_int, sub, div, le, lt, eq}
 use Rattle.floats.specs.Average.{average}
 use Rattle.quantities.specs.Time.{span, moment}
-use Rattle.quantities.specs.declared.Time.{Time}
 use Rattle.quantities.specs.declared.TimeSpan.{TimeSpan}
 use Rattle.remy.specs.declared.action.Action.{Action}
 use Rattle.remy.specs.declared.point.Point.{Point}

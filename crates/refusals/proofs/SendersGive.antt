@@ -1,7 +1,6 @@
 -- A moment, a new sender and the calls on a sender give what 01 says where they are taken, and none elsewhere. Assumes nothing.
 use mathlib.Core.Path.{◌≡◌, refl, ap, ◌∙◌}
 use mathlib.Core.Bool.{cond}
-use Prim.Native.Nat.{ℕ}
 use lib.Ieee.{Float}
 use Rattle.quantities.specs.declared.Time.{Time}
 use Rattle.quantities.specs.declared.Admitted.{Admitted}

@@ -1,6 +1,5 @@
 -- A refused call leaves the sender, by value and the caller's, whose answer has the same number. Assumes nothing.
 use mathlib.Core.Path.{◌≡◌, refl, ap, ◌∙◌}
-use Prim.Native.Nat.{ℕ}
 use lib.Ieee.{Float}
 use Rattle.rule_tree.specs.declared.RuleTree.{RuleTree}
 use Rattle.sender.specs.declared.Draw.{Draw}

@@ -31,8 +31,8 @@ use Rattle.rule_tree.specs.Walk.{leaf_of, walk_of}
 use Rattle.rule_tree.specs.Counts.{eligible, better, most_used}
 use Rattle.rule_tree.specs.Change.{fresh_tree, with_action, with_mark, without_marks, split_at_of, undone}
 use Rattle.rule_tree.specs.Calls.{refuse, taken, blank_tree, leaf_in, new_order, grown_order, domain_order, leaf_order, action_order, split_order, undo_order, counts_order, tally_order, equal_order, new_of, set_of, mark_of, clear_of, split_of, undo_of, domain_of, found_in, lookup_of, replaced_of, tally_of, counted_in, parents_of, used_of, most_used_of, equal_of}
-use Rattle.rule_tree.proofs.GrownTree.{grown-facts, grown-long, leaf_below}
-use Rattle.rule_tree.proofs.Looking.{replaced-same, replaced-other}
+use Rattle.rule_tree.proofs.GrownTree.{grown_facts, grown_long, leaf_below}
+use Rattle.rule_tree.proofs.Looking.{replaced_same, replaced_other}
 use Rattle.rule_tree_view.specs.View.{parents_in, lent_tree, view_of}
 use Rattle.refusals.specs.Told.{Given, none, value, Told, told, refused_with, looked_told, domain_told, tallied_told, chosen_told, number_told, compared_told}
 use Rattle.refusals.specs.Order.{Guarded, view_order}
@@ -93,12 +93,12 @@ module _ (t : RuleTree) (leaf : ℕ) (a : Action) (p : Point) (l : leaf < length
   replaced_in_lem : (b : Bool) → contains_of (root_of t.ends) p ≡ b → (z : Bool) → eqb (leaf_of t p) leaf ≡ z
       → looked_told (found_in (with_action t leaf a) p) ≡ told (cond b (value (cond z a (action_in (node_at_of t.nodes (leaf_of t p))))) none)
   unfolding looked_told found_in
-  replaced_in_lem true h true e = ap looked_told (sym (replaced-same t leaf a p (walk_of (children_of t.nodes) (root_of t.ends) p) h refl l (eqb-true (leaf_of t p) leaf e)))
-  replaced_in_lem true h false e = ap looked_told (sym (replaced-other t leaf a p (walk_of (children_of t.nodes) (root_of t.ends) p) h refl (eqb-false (leaf_of t p) leaf e)))
+  replaced_in_lem true h true e = ap looked_told (sym (replaced_same t leaf a p (walk_of (children_of t.nodes) (root_of t.ends) p) h refl l (eqb-true (leaf_of t p) leaf e)))
+  replaced_in_lem true h false e = ap looked_told (sym (replaced_other t leaf a p (walk_of (children_of t.nodes) (root_of t.ends) p) h refl (eqb-false (leaf_of t p) leaf e)))
   replaced_in_lem false h z e = rw h
 
 leaf_inside : (t : RuleTree) (i : ℕ) → grown_of t ≡ true → leaf_in t i ≡ true → i < length t.nodes
-leaf_inside t i g l = let f = grown-facts t g in omega (arith, f.few, grown-long t f, leaf_below t i l)
+leaf_inside t i g l = let f = grown_facts t g in omega (arith, f.few, grown_long t f, leaf_below t i l)
 
 pub replaced_told : (a : AugmentedRuleTree) (p : Point) → looked_told (replaced_of a p) ≡ guarded (action_order a.tree a.leaf a.action) refused_with (told (replaced_gives a p))
 unfolding replaced_of looked_told

@@ -34,8 +34,8 @@ unfolding printed_of
 printed_as input = refl
 
 module _ (input : List ℕ) (x : start_holds input ≡ true) (y : version_holds (record_part input) ≡ true) (z : body_holds (record_part input) ≡ true) where
-  pub printed-traced : printed_of input ≡ traced (tree_in input) (trace_part input)
-  printed-traced = printed_as input ∙ rw (x, y, z)
+  pub printed_traced : printed_of input ≡ traced (tree_in input) (trace_part input)
+  printed_traced = printed_as input ∙ rw (x, y, z)
 
   pub loads : load_of (record_part input) ≡ taken (read_of (record_part input))
   unfolding load_of
@@ -90,13 +90,13 @@ module _ (r bytes : List ℕ) (h : (load_of r).refused ≡ 0) where
   record_is : record_part (r ++ bytes) ≡ r
   record_is = take_at r bytes _ place
 
-  trace-is : trace_part (r ++ bytes) ≡ bytes
-  trace-is = drop_at r bytes _ place
+  trace_is : trace_part (r ++ bytes) ≡ bytes
+  trace_is = drop_at r bytes _ place
 
   tree_is : tree_in (r ++ bytes) ≡ (load_of r).trainer.tree
   tree_is = ap (λ (p : List ℕ). (read_of p).tree) record_is ∙ ap (λ (a : Answered). a.trainer.tree) (sym (loaded r h))
 
-  pub printed-joined : printed_of (r ++ bytes) ≡ traced (load_of r).trainer.tree bytes
-  printed-joined =
-      printed-traced (r ++ bytes) starts (ap version_holds record_is ∙ (held r h).version_held) (ap body_holds record_is ∙ (held r h).body_held)
-      ∙ (λ j. traced (tree_is j) (trace-is j))
+  pub printed_joined : printed_of (r ++ bytes) ≡ traced (load_of r).trainer.tree bytes
+  printed_joined =
+      printed_traced (r ++ bytes) starts (ap version_holds record_is ∙ (held r h).version_held) (ap body_holds record_is ∙ (held r h).body_held)
+      ∙ (λ j. traced (tree_is j) (trace_is j))

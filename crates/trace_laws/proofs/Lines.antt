@@ -34,9 +34,9 @@ module _ (s : PlainSender) (o : Reaction) where
       by true = refl
       by false = refl
 
-  left-same : (o.refused ≢ 0 → o ≡ refuse o.refused s) → left_by (state_of s) (reply_of o) ≡ state_of o.sender
+  left_same : (o.refused ≢ 0 → o ≡ refuse o.refused s) → left_by (state_of s) (reply_of o) ≡ state_of o.sender
   unfolding left_by reply_of
-  left-same h = by (eqb o.refused 0) refl
+  left_same h = by (eqb o.refused 0) refl
     where
       by : (b : Bool) → eqb o.refused 0 ≡ b → left_by (state_of s) (cond b (Taken (held_of o)) (Refused o.refused)) ≡ state_of o.sender
       by true e = refl
@@ -48,11 +48,11 @@ unfolding react reply_of
 tick_reply s = refl
 
 module _ (u : Tree) (v : ValidTree u) where
-  event-step : (s : PlainSender) (e : Event) → replied_to (state_of s) (on (embed_tree u) e) ≡ reply_of (react s (on u e))
+  event_step : (s : PlainSender) (e : Event) → replied_to (state_of s) (on (embed_tree u) e) ≡ reply_of (react s (on u e))
   unfolding replied_to on
-  event-step s (Ack sent received draw) = ack_step u v s sent received draw
-  event-step s (Send at) = send_step s at
-  event-step s Tick = ap Taken (tick_step s) ∙ tick_reply s
+  event_step s (Ack sent received draw) = ack_step u v s sent received draw
+  event_step s (Send at) = send_step s at
+  event_step s Tick = ap Taken (tick_step s) ∙ tick_reply s
 
   plain_more : (s : PlainSender) (e : Event) (es : List Event)
       → lines_of (plain_sender_events s (calls_on u (e ∷ es)))
@@ -60,22 +60,22 @@ module _ (u : Tree) (v : ValidTree u) where
   unfolding lines_of plain_sender_events
   plain_more s e es = refl
 
-  plain-none : (s : PlainSender) → lines_of (plain_sender_events s []) ≡ []
+  plain_none : (s : PlainSender) → lines_of (plain_sender_events s []) ≡ []
   unfolding lines_of plain_sender_events
-  plain-none s = refl
+  plain_none s = refl
 
-  lines-from : (es : List Event) (s : PlainSender) → lines_from (embed_tree u) (state_of s) es ≡ lines_of (plain_sender_events s (calls_on u es))
-  lines-from [] s = lines_none (embed_tree u) (state_of s) ∙ sym (plain-none s)
-  lines-from (e ∷ es) s =
+  lines_from_lem : (es : List Event) (s : PlainSender) → lines_from (embed_tree u) (state_of s) es ≡ lines_of (plain_sender_events s (calls_on u es))
+  lines_from_lem [] s = lines_none (embed_tree u) (state_of s) ∙ sym (plain_none s)
+  lines_from_lem (e ∷ es) s =
       let o = react s (on u e) in
       lines_more (embed_tree u) (state_of s) e es
-      ∙ ap (λ (r : Reply). line_of r ++ lines_from (embed_tree u) (left_by (state_of s) r) es) (event-step s e)
+      ∙ ap (λ (r : Reply). line_of r ++ lines_from (embed_tree u) (left_by (state_of s) r) es) (event_step s e)
       ∙ ap (λ (l : List ℕ). l ++ lines_from (embed_tree u) (left_by (state_of s) (reply_of o)) es) (line_same s o)
-      ∙ ap (λ (w : Sender). plain_line (event o.refused o.window o.clipped) ++ lines_from (embed_tree u) w es) (left-same s o (refused_stays s (on u e)))
-      ∙ ap (λ (l : List ℕ). plain_line (event o.refused o.window o.clipped) ++ l) (lines-from es o.sender)
+      ∙ ap (λ (w : Sender). plain_line (event o.refused o.window o.clipped) ++ lines_from (embed_tree u) w es) (left_same s o (refused_stays s (on u e)))
+      ∙ ap (λ (l : List ℕ). plain_line (event o.refused o.window o.clipped) ++ l) (lines_from_lem es o.sender)
       ∙ sym (plain_more s e es)
 
   -- on a fresh sender
-  pub lines-plain : (es : List Event) → lines_from (embed_tree u) (fresh_sender Off) es ≡ plain_lines u es
-  lines-plain es =
-      subst (λ (x : Sender). lines_from (embed_tree u) x es ≡ plain_lines u es) (start_renders (fresh_sender Off)) (lines-from es (plain_start (fresh_sender Off)))
+  pub lines_plain : (es : List Event) → lines_from (embed_tree u) (fresh_sender Off) es ≡ plain_lines u es
+  lines_plain es =
+      subst (λ (x : Sender). lines_from (embed_tree u) x es ≡ plain_lines u es) (start_renders (fresh_sender Off)) (lines_from_lem es (plain_start (fresh_sender Off)))

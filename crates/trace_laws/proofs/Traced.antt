@@ -22,37 +22,37 @@ use Rattle.promise.proofs.Begins.{start_valid}
 use Rattle.promise.proofs.Fitting.{FitState, point-fits, start_fits, step_fits}
 use Rattle.promise.proofs.StepsKeep.{step_valid}
 use Rattle.promise.proofs.Runs.{end_valid}
-use Rattle.promise.proofs.Reload.{load-embeds}
+use Rattle.promise.proofs.Reload.{load_embeds}
 use Rattle.promise.proofs.Ways.{tree_same}
-use Rattle.promise.proofs.Loads.{load-accepted, load_typed}
-use Rattle.promise.proofs.Unembed.{accepted-grown}
-use Rattle.promise.proofs.UnembedTree.{plain_tree, tree-valid, tree-back}
+use Rattle.promise.proofs.Loads.{load_accepted, load_typed}
+use Rattle.promise.proofs.Unembed.{accepted_grown}
+use Rattle.promise.proofs.UnembedTree.{plain_tree, tree_valid, tree_back}
 use Rattle.trace_lines.specs.Trace.{trace_part, events, printed_of}
 use Rattle.trace_lines.specs.Encoding.{events_bytes, trace_bytes, FitEvents}
-use Rattle.trace_lines.proofs.TraceLaws.{trace-encoded}
+use Rattle.trace_lines.proofs.TraceLaws.{trace_encoded}
 use Rattle.trace_laws.specs.PlainTrace.{plain_lines, Traces, PlainRecord}
-use Rattle.trace_laws.proofs.Joined.{traced, printed-traced, loads, printed-joined}
-use Rattle.trace_laws.proofs.Lines.{lines-plain}
+use Rattle.trace_laws.proofs.Joined.{traced, printed_traced, loads, printed_joined}
+use Rattle.trace_laws.proofs.Lines.{lines_plain}
 
 -- a trace over the tree that u stands for
 traces : (u : Tree) → ValidTree u → (t : RuleTree) → t ≡ embed_tree u → (bytes printed : List ℕ) → printed ≡ traced t bytes → Traces u bytes printed
 traces u v t e bytes printed p =
     record {
-      taken = λ h. p ∙ ap (λ (x : RuleTree). traced x bytes) e ∙ rw h (lines-plain u v (events bytes));
+      taken = λ h. p ∙ ap (λ (x : RuleTree). traced x bytes) e ∙ rw h (lines_plain u v (events bytes));
       refused = λ h. p ∙ rw h;
     }
 
 -- ---- the record of a plain trainer's state
 module _ (st : State) (v : ValidState st) (f : FitState st) where
-  state-tree : (load_of (record_bytes st)).trainer.tree ≡ embed_tree st.tree
-  state-tree =
-      ap (λ (a : Answered). a.trainer.tree) (load-embeds st v f)
+  state_tree : (load_of (record_bytes st)).trainer.tree ≡ embed_tree st.tree
+  state_tree =
+      ap (λ (a : Answered). a.trainer.tree) (load_embeds st v f)
       ∙ tree_of st.settings (embed_tree st.tree) st.stage st.round st.phase
 
-  pub state-traces : (bytes : List ℕ) → Traces st.tree bytes (printed_of (record_bytes st ++ bytes))
-  state-traces bytes =
-      traces st.tree v.tree (load_of (record_bytes st)).trainer.tree state-tree bytes (printed_of (record_bytes st ++ bytes))
-      (printed-joined (record_bytes st) bytes (ap (λ (a : Answered). a.refused) (load-embeds st v f)))
+  pub state_traces : (bytes : List ℕ) → Traces st.tree bytes (printed_of (record_bytes st ++ bytes))
+  state_traces bytes =
+      traces st.tree v.tree (load_of (record_bytes st)).trainer.tree state_tree bytes (printed_of (record_bytes st ++ bytes))
+      (printed_joined (record_bytes st) bytes (ap (λ (a : Answered). a.refused) (load_embeds st v f)))
 
 -- a list of calls leaves a state whose values are of their types
 end_fits : (st : State) (cs : List Call) → ValidState st → FitState st → Every FitCall cs → FitState (plain_end_of st cs)
@@ -62,36 +62,36 @@ end_fits st (c ∷ cs) v f h = end_fits (step st c).state cs (step_valid st v c 
 
 -- ---- every list of calls to a trainer that starts fresh, and every trace after its record
 module _ (s : Settings) (h : settings_hold s ≡ true) (f : FitSettings s) (cs : List Call) (c : Every FitCall cs) where
-  pub trace-plain : (bytes : List ℕ) → Traces (plain_end_of (start s) cs).tree bytes (printed_of (record_bytes (plain_end_of (start s) cs) ++ bytes))
-  trace-plain bytes =
+  pub trace_plain : (bytes : List ℕ) → Traces (plain_end_of (start s) cs).tree bytes (printed_of (record_bytes (plain_end_of (start s) cs) ++ bytes))
+  trace_plain bytes =
       let v = start_valid s h (point-fits f.ends) in
-      state-traces (plain_end_of (start s) cs) (end_valid (start s) cs v c) (end_fits (start s) cs v (start_fits s h f) c) bytes
+      state_traces (plain_end_of (start s) cs) (end_valid (start s) cs v c) (end_fits (start s) cs v (start_fits s h f) c) bytes
 
   -- and so of every list of events that a trace can hold
-  pub events-plain : (es : List Event) → FitEvents es → length (events_bytes es) ≤ 32763
+  pub events_plain : (es : List Event) → FitEvents es → length (events_bytes es) ≤ 32763
       → printed_of (record_bytes (plain_end_of (start s) cs) ++ trace_bytes es) ≡ plain_lines (plain_end_of (start s) cs).tree es
-  events-plain es g l =
-      let e = trace-encoded es g l in
-      (trace-plain (trace_bytes es)).taken e.0 ∙ ap (plain_lines (plain_end_of (start s) cs).tree) e.1
+  events_plain es g l =
+      let e = trace_encoded es g l in
+      (trace_plain (trace_bytes es)).taken e.0 ∙ ap (plain_lines (plain_end_of (start s) cs).tree) e.1
 
 -- ---- every record that is accepted, and whatever follows it
 module _ (input : List ℕ) (x : start_holds input ≡ true) (y : version_holds (record_part input) ≡ true) (z : body_holds (record_part input) ≡ true) where
-  zero-refused : (load_of (record_part input)).refused ≡ 0
-  zero-refused = ap (λ (a : Answered). a.refused) (loads input x y z)
+  zero_refused : (load_of (record_part input)).refused ≡ 0
+  zero_refused = ap (λ (a : Answered). a.refused) (loads input x y z)
 
   tree_is : tree_in input ≡ (load_of (record_part input)).trainer.tree
   tree_is = ap (λ (a : Answered). a.trainer.tree) (sym (loads input x y z))
 
-  pub every-record : PlainRecord input
-  every-record =
+  pub every_record : PlainRecord input
+  every_record =
       let t = (load_of (record_part input)).trainer in
-      let a = load-accepted (record_part input) zero-refused in
-      let f = load_typed (record_part input) zero-refused in
+      let a = load_accepted (record_part input) zero_refused in
+      let f = load_typed (record_part input) zero_refused in
       let u = plain_tree t.tree in
-      let v = tree-valid t.tree (accepted-grown t a) f.sized f.ends in
-      let e : tree_in input ≡ embed_tree u = tree_is ∙ sym (tree-back t.tree (accepted-grown t a) f.sized f.nodes) in
+      let v = tree_valid t.tree (accepted_grown t a) f.sized f.ends in
+      let e : tree_in input ≡ embed_tree u = tree_is ∙ sym (tree_back t.tree (accepted_grown t a) f.sized f.nodes) in
       record {
         tree = u;
         same = subst (λ (r : RuleTree). SameTree r u) (sym e) (tree_same u v);
-        traces = traces u v (tree_in input) e (trace_part input) (printed_of input) (printed-traced input x y z);
+        traces = traces u v (tree_in input) e (trace_part input) (printed_of input) (printed_traced input x y z);
       }
