@@ -32,7 +32,7 @@ use Rattle.promise.specs.Values.{Every, FitSettings, FitCall}
 use Rattle.promise.specs.Demand3.{Step, step_of, shown_as}
 use Rattle.sender.specs.SenderCall as runs
 use Rattle.promise.specs.SenderRuns.{SenderStep, sender_step, plain_start}
-use Rattle.promise.proofs.PlainSettings.{settings-same, mode_same, fresh_same}
+use Rattle.promise.proofs.PlainSettings.{settings_same, mode_same, fresh_same}
 use Rattle.promise.proofs.Embed.{embed_tree, ValidTree}
 use Rattle.promise.proofs.States.{embed, ValidState}
 use Rattle.promise.proofs.Accepted.{tree_of}
@@ -40,10 +40,10 @@ use Rattle.promise.proofs.Begins.{start_valid}
 use Rattle.promise.proofs.Questions.{question_embeds}
 use Rattle.promise.proofs.StepsKeep.{step_valid}
 use Rattle.promise.proofs.Fitting.{FitState, point-fits, step_fits, start_fits}
-use Rattle.promise.proofs.Reload.{save_embeds, saved_embeds, record-length}
-use Rattle.promise.proofs.Runs.{step_embeds, starts-alike}
-use Rattle.promise.proofs.TreeGrown.{grown-embeds}
-use Rattle.promise.proofs.SenderLeaf.{looked_at, found-embeds}
+use Rattle.promise.proofs.Reload.{save_embeds, saved_embeds, record_length}
+use Rattle.promise.proofs.Runs.{step_embeds, starts_alike}
+use Rattle.promise.proofs.TreeGrown.{grown_embeds}
+use Rattle.promise.proofs.SenderLeaf.{looked_at, found_embeds}
 use Rattle.promise.proofs.SenderRender.{start_renders}
 use Rattle.promise.proofs.SenderRun.{AckOver, call_step}
 use Rattle.runs.specs.Script.{settings, fresh, mode, handed_in, Item, train, ack, send, tick, lookup, calls_of}
@@ -78,7 +78,7 @@ tree_embeds st = tree_of st.settings (embed_tree st.tree) st.stage st.round st.p
 lookup_agrees : (st : State) → ValidState st → (p : Point) → looked_words (lookup_of (embed st).tree p) ≡ found_words st.tree (leaf_at st.tree p)
 lookup_agrees st v p =
     ap (λ (t : RuleTree). looked_words (lookup_of t p)) (tree_embeds st)
-    ∙ ap looked_words (grown_lookup (embed_tree st.tree) p (grown-embeds st.tree v.tree) ∙ found-embeds st.tree v.tree p)
+    ∙ ap looked_words (grown_lookup (embed_tree st.tree) p (grown_embeds st.tree v.tree) ∙ found_embeds st.tree v.tree p)
     ∙ found_same st.tree (leaf_at st.tree p)
 
 -- ---- the record at the end: 172 + 170 s bytes for at most 64 splits, which the buffer holds
@@ -90,18 +90,18 @@ unfolding end_words
 end_size t n = refl
 
 module _ (st : State) (v : ValidState st) (f : FitState st) where
-  record-small : length (record_bytes st) ≤ length buffer
-  record-small = omega (arith, record-length st v f, v.tree.few, length-replicate {A = ℕ} 16388 0)
+  record_small : length (record_bytes st) ≤ length buffer
+  record_small = omega (arith, record_length st v f, v.tree.few, length-replicate {A = ℕ} 16388 0)
 
-  saves-whole : save_of (embed st) buffer ≡ Size (length (record_bytes st))
-  saves-whole =
+  saves_whole : save_of (embed st) buffer ≡ Size (length (record_bytes st))
+  saves_whole =
       save_embeds st v buffer
-      ∙ ap (λ (b : Bool). cond b (Size (length (record_bytes st))) (Refused 9)) (le-leb (length (record_bytes st)) (length buffer) record-small)
+      ∙ ap (λ (b : Bool). cond b (Size (length (record_bytes st))) (Refused 9)) (le-leb (length (record_bytes st)) (length buffer) record_small)
 
-  end-agrees : end_words (embed st) (save_of (embed st) buffer) ≡ length (record_bytes st) ∷ record_bytes st
-  end-agrees =
+  end_agrees : end_words (embed st) (save_of (embed st) buffer) ≡ length (record_bytes st) ∷ record_bytes st
+  end_agrees =
       let n = length (record_bytes st) in
-      ap (end_words (embed st)) saves-whole
+      ap (end_words (embed st)) saves_whole
       ∙ end_size (embed st) n
       ∙ ap (λ (bs : List ℕ). n ∷ take n bs) (saved_embeds st v buffer)
       ∙ ap (λ (bs : List ℕ). n ∷ bs) (take_at (record_bytes st) (drop n buffer) n refl)
@@ -169,7 +169,7 @@ from_agrees :
     (is : List Item) (st : State) (s : PlainSender) → ValidState st → FitState st → Every FitItem is
     → ran_from (embed st) (state_of s) is ≡ compared_from st s is
 unfolding ran_from compared_from
-from_agrees [] st s v f h = ap (λ (ws : List ℕ). ws ++ sender_words (state_of s)) (end-agrees st v f)
+from_agrees [] st s v f h = ap (λ (ws : List ℕ). ws ++ sender_words (state_of s)) (end_agrees st v f)
 from_agrees (train c ∷ is) st s v f h =
     train-agrees is st s v f c h.0 (from_agrees is (step st c).state s (step_valid st v c h.0) (step_fits st v f c h.0) h.1)
 from_agrees (ack sent received draw ∷ is) st s v f h =
@@ -184,7 +184,7 @@ start_agrees :
     → question_words (question_of (start_of s).trainer) ++ ran_from (start_of s).trainer x is
     ≡ asked_words (question (start s)) ++ compared_from (start s) (plain_start x) is
 start_agrees s x is k f h =
-    ap (λ (t : Trainer). question_words (question_of t) ++ ran_from t x is) (starts-alike s k)
+    ap (λ (t : Trainer). question_words (question_of t) ++ ran_from t x is) (starts_alike s k)
     ∙ ap (λ (ws : List ℕ). ws ++ ran_from (embed (start s)) x is) (question_agrees (start s) (start_valid s k (point-fits f.ends)))
     ∙ ap (λ (y : Sender). asked_words (question (start s)) ++ ran_from (embed (start s)) y is) (sym (start_renders x))
     ∙ ap (λ (ws : List ℕ). asked_words (question (start s)) ++ ws)
@@ -195,7 +195,7 @@ with_agrees :
     → Every FitItem is → ran_with s m is ≡ compared_with s taken x is
 unfolding ran_with ran_made compared_with
 with_agrees s m taken x is e f h =
-    go (settings_hold s) refl taken e ∙ ap (λ (a : Bool). cond (a && taken) (0 ∷ compared) (2 ∷ [])) (sym (settings-same s))
+    go (settings_hold s) refl taken e ∙ ap (λ (a : Bool). cond (a && taken) (0 ∷ compared) (2 ∷ [])) (sym (settings_same s))
   where
     compared : List ℕ
     compared = asked_words (question (start s)) ++ compared_from (start s) (plain_start x) is

@@ -1,7 +1,7 @@
 -- A buffer filled byte by byte. Assumes nothing.
 use mathlib.Core.Path.{◌≡◌, sym, ap, ◌∙◌}
 use mathlib.Core.List.{List, [], ◌∷◌, ◌++◌, map-append}
-use Prim.Native.Nat.{ℕ, suc, ◌+◌, ◌%◌, ◌<◌, ◌≤◌}
+use Prim.Native.Nat.{ℕ, ◌+◌, ◌%◌, ◌<◌, ◌≤◌}
 use native.Mathlib.Numerals.{add-one}
 use native.Mathlib.Omega.{arith}
 use lib.ListN.{length, take, get_or, set}
@@ -22,5 +22,5 @@ module _ (ws buf : List ℕ) (i : ℕ) where
       ∙ ap bytes_of (sym (take-suc ws i 0 h))
       ∙ ap (λ (n : ℕ). bytes_of (take n ws)) (sym (add-one i))
 
-  pub all-filled : length buf ≡ length ws → length ws ≤ i → Filled ws buf i → buf ≡ bytes_of ws
-  all-filled h k f = sym (take_all i buf (omega arith)) ∙ f ∙ ap bytes_of (take_all i ws k)
+  pub all_filled : length buf ≡ length ws → length ws ≤ i → Filled ws buf i → buf ≡ bytes_of ws
+  all_filled h k f = sym (take_all i buf (omega arith)) ∙ f ∙ ap bytes_of (take_all i ws k)

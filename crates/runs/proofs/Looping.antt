@@ -51,8 +51,8 @@ module _ (Whole : ℕ → List ℕ → Type 0) (script : List ℕ) (r : State) (
         let b = size_is in
         omega arith
 
-    calls-on : items_of (length script) (drop p script) ≡ item_of (drop p script) ∷ items_of (length script) (drop (p + size) script)
-    calls-on =
+    calls_on_lem : items_of (length script) (drop p script) ≡ item_of (drop p script) ∷ items_of (length script) (drop (p + size) script)
+    calls_on_lem =
         next_call (length script) (drop p script) (rw length-drop (omega arith)) (stands (drop p script) size is some)
         ∙ ap (λ (k : ℕ). item_of (drop p script) ∷ items_of (length script) (drop k (drop p script))) (sym size_is)
         ∙ ap (λ (l : List ℕ). item_of (drop p script) ∷ items_of (length script) l) (drop-drop size p script)
@@ -67,7 +67,7 @@ module _ (Whole : ℕ → List ℕ → Type 0) (script : List ℕ) (r : State) (
         (ap (λ (u : Trainer). t.words ++ ran_from u q.sender is') m.trainer
         ∙ ap (λ (u : Sender). t.words ++ ran_from t.trainer u is') m.sender
         ∙ sym (ran_more r.trainer r.sender (item_of (drop p script)) is')
-        ∙ ap (ran_from r.trainer r.sender) (sym calls-on))
+        ∙ ap (ran_from r.trainer r.sender) (sym calls_on_lem))
         (then out r.at h m.puts w))
 
   -- no call more
@@ -116,9 +116,9 @@ module _ {Whole : ℕ → List ℕ → Type 0} (script old out : List ℕ) (r : 
     pub more : p + size ≤ length script
     more = past Whole script r p size s.sized some s.place
 
-    pub stood-next : {q : State} {mid : List ℕ} {then : ℕ} → Makes r (item_of (lent_from script p)) out q mid → length mid ≡ length out
+    pub stood_next : {q : State} {mid : List ℕ} {then : ℕ} → Makes r (item_of (lent_from script p)) out q mid → length mid ≡ length out
         → then ≡ whole_size (lent_from script (p + size)) → Stood Whole script old mid q (p + size) then
-    stood-next {q} {mid} m l e =
+    stood_next {q} {mid} m l e =
         let w = s.same in
         let z = fits out r.at m.puts in
         record {
@@ -129,10 +129,10 @@ module _ {Whole : ℕ → List ℕ → Type 0} (script old out : List ℕ) (r : 
           rest = turn Whole script r p size s.sized some out q mid s.fit (rw (lent_is script p) at m) s.rest;
         }
 
-  pub stood-last : {n m : ℕ} {mid after : List ℕ} → size ≤ 0
+  pub stood_last : {n m : ℕ} {mid after : List ℕ} → size ≤ 0
       → Puts out r.at (end_words r.trainer (save_of r.trainer (replicate 16388 0))) m mid → Puts mid m (sender_words r.sender) n after
       → Whole n after
-  stood-last h w u = end Whole script r p size s.sized out h s.fit w u s.rest
+  stood_last h w u = end Whole script r p size s.sized out h s.fit w u s.rest
 
 -- ---- the start
 from_first : (script : List ℕ) → drop (min 46 (length script)) script ≡ drop 46 script
@@ -175,28 +175,28 @@ start_not s {a} e f = go (settings_hold s) refl
 
 module _ (script out : List ℕ) {a : Answered} {g : Settings} (settled : g ≡ settings script) (started : a ≡ start_of g) where
   module _ {n : ℕ} {after : List ℕ} where
-    pub refuses-settings : (a.refused ≡ 0 → ⊥) → Puts out 0 (2 ∷ []) n after → Puts out 0 (ran_of script) n after
+    pub refuses_settings : (a.refused ≡ 0 → ⊥) → Puts out 0 (2 ∷ []) n after → Puts out 0 (ran_of script) n after
     unfolding ran_with
-    refuses-settings f w = rw (start_not (settings script) (started ∙ ap start_of settled) f) w
+    refuses_settings f w = rw (start_not (settings script) (started ∙ ap start_of settled) f) w
 
-    pub refuses-sender : {x : Made} (k : ℕ) → a.refused ≡ 0 → x ≡ made_of script → x ≡ made.Refused k → Puts out 0 (2 ∷ []) n after
+    pub refuses_sender : {x : Made} (k : ℕ) → a.refused ≡ 0 → x ≡ made_of script → x ≡ made.Refused k → Puts out 0 (2 ∷ []) n after
         → Puts out 0 (ran_of script) n after
     unfolding ran_with ran_made
-    refuses-sender k f y z w = rw (start_holds_lem (settings script) (started ∙ ap start_of settled) f, ← y, z) w
+    refuses_sender k f y z w = rw (start_holds_lem (settings script) (started ∙ ap start_of settled) f, ← y, z) w
 
-    pub runs-all : {x : Made} (s : Sender) → a.refused ≡ 0 → x ≡ made_of script → x ≡ made.Ready s
+    pub runs_all : {x : Made} (s : Sender) → a.refused ≡ 0 → x ≡ made_of script → x ≡ made.Ready s
         → Puts out 0 (0 ∷ (question_words (question_of a.trainer) ++ ran_from a.trainer s (calls_of script))) n after
         → Puts out 0 (ran_of script) n after
     unfolding ran_with ran_made
-    runs-all s f y z w =
+    runs_all s f y z w =
         rw (start_holds_lem (settings script) (started ∙ ap start_of settled) f, ← y, z) (rw (started ∙ ap start_of settled) at w)
 
 -- ---- the sender of the start
 module _ (script : List ℕ) {x : ℕ} (is : x ≡ word script 19) where
-  pub new-sender : {m : RepeatMode} {r : Made} → x ≡ 0 → m ≡ mode script → r ≡ new_of m → r ≡ made_of script
+  pub new_sender : {m : RepeatMode} {r : Made} → x ≡ 0 → m ≡ mode script → r ≡ new_of m → r ≡ made_of script
   unfolding made_of
-  new-sender e f g = rw (← is, e) (g ∙ ap new_of f)
+  new_sender e f g = rw (← is, e) (g ∙ ap new_of f)
 
-  pub given-sender : {s : Sender} → (x ≡ 0 → ⊥) → s ≡ handed_in script → made.Ready s ≡ made_of script
+  pub given_sender : {s : Sender} → (x ≡ 0 → ⊥) → s ≡ handed_in script → made.Ready s ≡ made_of script
   unfolding made_of
-  given-sender e f = rw (← is, ne_eqb x 0 e) (ap made.Ready f)
+  given_sender e f = rw (← is, ne_eqb x 0 e) (ap made.Ready f)

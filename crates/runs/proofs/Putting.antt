@@ -14,11 +14,9 @@ use lib.Seq.{sets, length-sets, set_out, take-suc-set, drop-set-lt, take_all, ta
 use lib.Ieee.{Float}
 use mir.Syntax.{w32}
 use mir.Val.{of_z}
-use denote.Enum.Declared.{tag_of}
 use Rattle.remy.specs.declared.action.Action.{Action}
 use Rattle.rule_tree.specs.declared.Looked.{Looked}
 use Rattle.rule_tree.specs.declared.Looked.TheVariants as looked
-use Rattle.rule_tree.specs.contracts.Looked.{the_type}
 use Rattle.trainer.specs.declared.Question.{Question}
 use Rattle.trainer.specs.declared.Question.TheVariants as question
 use Rattle.wire.proofs.Stores.{sets_append}
@@ -142,43 +140,42 @@ pub action_words_lem : (a : Action) {m i d : ℕ} → m ≡ bits a.window_multip
 action_words_lem a e f g = rw (e, f, g)
 
 module _ (out : List ℕ) (at : ℕ) where
-  pub score-words : {i : ℕ} (a : Action) (x : Float) {n m last b : ℕ} {one two after : List ℕ} → at ≤ length out → Puts out at (2 ∷ (i ∷ [])) n one
+  pub score_words : {i : ℕ} (a : Action) (x : Float) {n m last b : ℕ} {one two after : List ℕ} → at ≤ length out → Puts out at (2 ∷ (i ∷ [])) n one
       → Puts one n (action_words a) m two → b ≡ bits x → Puts two m (b ∷ []) last after → Puts out at (question_words (question.Score i a x)) last after
   unfolding question_words
-  score-words a x {m = m} {two = two} h p q e w =
+  score_words a x {m = m} {two = two} h p q e w =
       then out at h (then out at h p q) (spelt two m (ap (λ (y : ℕ). y ∷ []) e) w)
 
   module _ {next : ℕ} {after : List ℕ} where
-    pub counts-words : {q : Question} {x : Float} {b : ℕ} → q ≡ question.Counts x → b ≡ bits x → Puts out at (1 ∷ (b ∷ [])) next after
+    pub counts_words : {q : Question} {x : Float} {b : ℕ} → q ≡ question.Counts x → b ≡ bits x → Puts out at (1 ∷ (b ∷ [])) next after
         → Puts out at (question_words q) next after
     unfolding question_words
-    counts-words e f w = rw e (rw f at w)
+    counts_words e f w = rw e (rw f at w)
 
-    pub scored-words : {q : Question} {i : ℕ} {a : Action} {x : Float} → q ≡ question.Score i a x
+    pub scored_words : {q : Question} {i : ℕ} {a : Action} {x : Float} → q ≡ question.Score i a x
         → Puts out at (question_words (question.Score i a x)) next after → Puts out at (question_words q) next after
-    scored-words e w = rw e w
+    scored_words e w = rw e w
 
-    pub done-words : {q : Question} {x : Float} {b : ℕ} → q ≡ question.Done x → b ≡ bits x → Puts out at (3 ∷ (b ∷ [])) next after
+    pub done_words : {q : Question} {x : Float} {b : ℕ} → q ≡ question.Done x → b ≡ bits x → Puts out at (3 ∷ (b ∷ [])) next after
         → Puts out at (question_words q) next after
     unfolding question_words
-    done-words e f w = rw e (rw f at w)
+    done_words e f w = rw e (rw f at w)
 
-    pub unfound-words : (l : Looked) → (tag_of the_type l ≡ 1) ⊎ (tag_of the_type l ≡ 2) → Puts out at (0 ∷ []) next after
+    pub unfound_words : (l : Looked) → ((a : Action) → l ≡ looked.Found a → ⊥) → Puts out at (0 ∷ []) next after
         → Puts out at (looked_words l) next after
     unfolding looked_words
-    unfound-words (looked.Found a) (inl e) w = absurd (omega arith)
-    unfound-words (looked.Found a) (inr e) w = absurd (omega arith)
-    unfound-words looked.Nothing e w = w
-    unfound-words (looked.Refused k) e w = w
+    unfound_words (looked.Found a) e w = absurd (e a refl)
+    unfound_words looked.Nothing e w = w
+    unfound_words (looked.Refused k) e w = w
 
-  pub refused-words : {q : Question} (k : ℕ) → at ≤ length out → q ≡ question.Refused k → Puts out at (question_words q) at out
+  pub refused_words : {q : Question} (k : ℕ) → at ≤ length out → q ≡ question.Refused k → Puts out at (question_words q) at out
   unfolding question_words
-  refused-words k h e = rw e (nothing out at h)
+  refused_words k h e = rw e (nothing out at h)
 
-  pub found-words : {l : Looked} (a : Action) {n last : ℕ} {one after : List ℕ} → at ≤ length out → l ≡ looked.Found a → Puts out at (1 ∷ []) n one
+  pub found_words_lem : {l : Looked} (a : Action) {n last : ℕ} {one after : List ℕ} → at ≤ length out → l ≡ looked.Found a → Puts out at (1 ∷ []) n one
       → Puts one n (action_words a) last after → Puts out at (looked_words l) last after
   unfolding looked_words
-  found-words a h e p w = rw e (then out at h p w)
+  found_words_lem a h e p w = rw e (then out at h p w)
 
 -- ---- from the first place on
 module _ (words out : List ℕ) where

@@ -70,17 +70,17 @@ settings_read ws i at a b c d e f g h k p =
     }
 
 module _ (ws : List ℕ) (kind : ℕ) (is : kind ≡ word ws 20) where
-  pub mode-off : kind ≡ 0 → Off ≡ mode ws
+  pub mode_off : kind ≡ 0 → Off ≡ mode ws
   unfolding mode
-  mode-off e = rw (← is, e)
+  mode_off e = rw (← is, e)
 
-  pub mode-always : {n : ℕ} → kind ≡ 1 → n ≡ number ws 21 → Always n ≡ mode ws
+  pub mode_always : {n : ℕ} → kind ≡ 1 → n ≡ number ws 21 → Always n ≡ mode ws
   unfolding mode
-  mode-always e f = rw (← is, e, f)
+  mode_always e f = rw (← is, e, f)
 
-  pub mode-between : {lo hi : ℕ} → (kind ≡ 0 → ⊥) → (kind ≡ 1 → ⊥) → lo ≡ number ws 21 → hi ≡ number ws 22 → Between lo hi ≡ mode ws
+  pub mode_between : {lo hi : ℕ} → (kind ≡ 0 → ⊥) → (kind ≡ 1 → ⊥) → lo ≡ number ws 21 → hi ≡ number ws 22 → Between lo hi ≡ mode ws
   unfolding mode
-  mode-between a b f g = rw (← is, ne_eqb kind 0 a, ne_eqb kind 1 b, f, g)
+  mode_between a b f g = rw (← is, ne_eqb kind 0 a, ne_eqb kind 1 b, f, g)
 
 -- ---- the size of a call
 pub fixed_is : (code k : ℕ) → code ≡ k → fixed_size k ≡ fixed_size code
@@ -100,22 +100,22 @@ module _ (ws : List ℕ) where
   unfolding size_of
   size_none e = rw e
 
-  size-reload : word ws 0 ≡ 3 → size_of ws ≡ cond (leb (word ws 1) 32768) (2 + word ws 1) 0
+  size_reload : word ws 0 ≡ 3 → size_of ws ≡ cond (leb (word ws 1) 32768) (2 + word ws 1) 0
   unfolding size_of
-  size-reload e = rw e
+  size_reload e = rw e
 
-  size-short : word ws 0 ≡ 3 → word ws 1 ≤ 32768 → size_of ws ≡ 2 + word ws 1
-  size-short e h = size-reload e ∙ ap (λ (b : Bool). cond b (2 + word ws 1) 0) (le-leb (word ws 1) 32768 h)
+  size_short : word ws 0 ≡ 3 → word ws 1 ≤ 32768 → size_of ws ≡ 2 + word ws 1
+  size_short e h = size_reload e ∙ ap (λ (b : Bool). cond b (2 + word ws 1) 0) (le-leb (word ws 1) 32768 h)
 
-  size-long : word ws 0 ≡ 3 → 32768 < word ws 1 → size_of ws ≡ 0
-  size-long e h = size-reload e ∙ ap (λ (b : Bool). cond b (2 + word ws 1) 0) (lt-leb (word ws 1) 32768 h)
+  size_long : word ws 0 ≡ 3 → 32768 < word ws 1 → size_of ws ≡ 0
+  size_long e h = size_reload e ∙ ap (λ (b : Bool). cond b (2 + word ws 1) 0) (lt-leb (word ws 1) 32768 h)
 
-  size-fixed : (word ws 0 ≡ 1 → ⊥) → (word ws 0 ≡ 3 → ⊥) → size_of ws ≡ fixed_size (word ws 0)
+  size_fixed : (word ws 0 ≡ 1 → ⊥) → (word ws 0 ≡ 3 → ⊥) → size_of ws ≡ fixed_size (word ws 0)
   unfolding size_of fixed_size
-  size-fixed e f = rw (ne_eqb (word ws 0) 1 e, ne_eqb (word ws 0) 3 f)
+  size_fixed e f = rw (ne_eqb (word ws 0) 1 e, ne_eqb (word ws 0) 3 f)
 
-  pub other-size : {code n : ℕ} → code ≡ word ws 0 → (code ≡ 1 → ⊥) → (code ≡ 3 → ⊥) → n ≡ fixed_size code → size_of ws ≡ n
-  other-size e f k g = size-fixed (λ h. f (e ∙ h)) (λ h. k (e ∙ h)) ∙ ap fixed_size (sym e) ∙ sym g
+  pub other_size : {code n : ℕ} → code ≡ word ws 0 → (code ≡ 1 → ⊥) → (code ≡ 3 → ⊥) → n ≡ fixed_size code → size_of ws ≡ n
+  other_size e f k g = size_fixed (λ h. f (e ∙ h)) (λ h. k (e ∙ h)) ∙ ap fixed_size (sym e) ∙ sym g
 
   both : (b : Bool) → ltb 0 (size_of ws) ≡ b → leb (size_of ws) (length ws) ≡ true → whole_size ws ≡ size_of ws
   unfolding whole_size whole_of
@@ -134,28 +134,28 @@ module _ (ws : List ℕ) where
   cut_off n e h = cut (ltb 0 (size_of ws)) refl (lt-leb (size_of ws) (length ws) (omega arith))
 
   -- a call that lists its words
-  listed-whole : (b : Bool) → leb (2 + word ws 1) (length ws) ≡ b → size_of ws ≡ 2 + word ws 1 → listed_size ws ≡ whole_size ws
+  listed_whole : (b : Bool) → leb (2 + word ws 1) (length ws) ≡ b → size_of ws ≡ 2 + word ws 1 → listed_size ws ≡ whole_size ws
   unfolding listed_size
-  listed-whole true l e = rw l (whole_is (2 + word ws 1) e (leb-true (2 + word ws 1) (length ws) l))
-  listed-whole false l e = rw l (cut_off (2 + word ws 1) e (leb-false (2 + word ws 1) (length ws) l))
+  listed_whole true l e = rw l (whole_is (2 + word ws 1) e (leb-true (2 + word ws 1) (length ws) l))
+  listed_whole false l e = rw l (cut_off (2 + word ws 1) e (leb-false (2 + word ws 1) (length ws) l))
 
-  pub lists-counts : {code n : ℕ} → code ≡ word ws 0 → code ≡ 1 → n ≡ listed_size ws → n ≡ whole_size ws
-  lists-counts e f g = g ∙ listed-whole (leb (2 + word ws 1) (length ws)) refl (size_counts (sym e ∙ f))
+  pub lists_counts : {code n : ℕ} → code ≡ word ws 0 → code ≡ 1 → n ≡ listed_size ws → n ≡ whole_size ws
+  lists_counts e f g = g ∙ listed_whole (leb (2 + word ws 1) (length ws)) refl (size_counts (sym e ∙ f))
 
-  pub lists-bytes : {code x n : ℕ} → code ≡ word ws 0 → code ≡ 3 → x ≡ word ws 1 → x ≤ 32768 → n ≡ listed_size ws → n ≡ whole_size ws
-  lists-bytes e f y h g = g ∙ listed-whole (leb (2 + word ws 1) (length ws)) refl (size-short (sym e ∙ f) (omega arith))
+  pub lists_bytes : {code x n : ℕ} → code ≡ word ws 0 → code ≡ 3 → x ≡ word ws 1 → x ≤ 32768 → n ≡ listed_size ws → n ≡ whole_size ws
+  lists_bytes e f y h g = g ∙ listed_whole (leb (2 + word ws 1) (length ws)) refl (size_short (sym e ∙ f) (omega arith))
 
   pub too_long : {code x : ℕ} → code ≡ word ws 0 → code ≡ 3 → x ≡ word ws 1 → 32768 < x → 0 ≡ whole_size ws
-  too_long e f y h = whole_is 0 (size-long (sym e ∙ f) (omega arith)) (omega arith)
+  too_long e f y h = whole_is 0 (size_long (sym e ∙ f) (omega arith)) (omega arith)
 
   module _ {n : ℕ} (is : n ≡ word ws 1) where
-    pub listed-none : length ws < n + 2 → 0 ≡ listed_size ws
+    pub listed_none : length ws < n + 2 → 0 ≡ listed_size ws
     unfolding listed_size
-    listed-none h = rw (lt-leb (2 + word ws 1) (length ws) (omega arith))
+    listed_none h = rw (lt-leb (2 + word ws 1) (length ws) (omega arith))
 
-    pub listed-all : n + 2 ≤ length ws → n + 2 ≡ listed_size ws
+    pub listed_all : n + 2 ≤ length ws → n + 2 ≡ listed_size ws
     unfolding listed_size
-    listed-all h = rw (le-leb (2 + word ws 1) (length ws) (omega arith)) (omega arith)
+    listed_all h = rw (le-leb (2 + word ws 1) (length ws) (omega arith)) (omega arith)
 
 -- ---- a whole call
 pub record Stands (ws : List ℕ) : Type 0 where
@@ -189,91 +189,91 @@ stands_size ws n e h = e ∙ size_by ws true (stands ws n e h).whole
 
 -- ---- the call of a code
 module _ (ws : List ℕ) (code : ℕ) (is : code ≡ word ws 0) where
-  pub call-counts : (size : ℕ) {xs : List ℕ} → code ≡ 1 → size ≡ size_of ws → xs ≡ take (size - 2) (drop 2 ws) → counts xs ≡ trainer_call ws
+  pub call_counts : (size : ℕ) {xs : List ℕ} → code ≡ 1 → size ≡ size_of ws → xs ≡ take (size - 2) (drop 2 ws) → counts xs ≡ trainer_call ws
   unfolding trainer_call
-  call-counts size e f g =
+  call_counts size e f g =
       let n : size - 2 ≡ word ws 1 = let h = size_counts ws (sym is ∙ e) in omega arith in
       rw (← is, e, g, n)
 
-  pub call-score : {x : Float} → code ≡ 2 → x ≡ float ws 1 → score x ≡ trainer_call ws
+  pub call_score : {x : Float} → code ≡ 2 → x ≡ float ws 1 → score x ≡ trainer_call ws
   unfolding trainer_call
-  call-score e f = rw (← is, e, f)
+  call_score e f = rw (← is, e, f)
 
   -- a reload: code 3, as a call of code 0 has no words
-  is-three : {size : ℕ} → (code ≡ 1 → ⊥) → (code ≡ 2 → ⊥) → First ws size → word ws 0 < 4 → word ws 0 ≡ 3
-  is-three {size} a b f h =
+  is_three : {size : ℕ} → (code ≡ 1 → ⊥) → (code ≡ 2 → ⊥) → First ws size → word ws 0 < 4 → word ws 0 ≡ 3
+  is_three {size} a b f h =
       let no_code : word ws 0 ≡ 0 → ⊥ = λ e. let z = f.sized ∙ size_none ws e in let w = f.some in omega arith in
       let x : code ≡ 0 → ⊥ = λ e. no_code (sym is ∙ e) in
       omega arith
 
   module _ {size : ℕ} (a : code ≡ 1 → ⊥) (b : code ≡ 2 → ⊥) (f : First ws size) (h : word ws 0 < 4) where
-    pub reload-size : (size ≡ 2 + word ws 1) × (word ws 1 ≤ 32768)
-    reload-size = go (leb (word ws 1) 32768) refl
+    pub reload_size : (size ≡ 2 + word ws 1) × (word ws 1 ≤ 32768)
+    reload_size = go (leb (word ws 1) 32768) refl
       where
         three : word ws 0 ≡ 3
-        three = is-three a b f h
+        three = is_three a b f h
 
         go : (c : Bool) → leb (word ws 1) 32768 ≡ c → (size ≡ 2 + word ws 1) × (word ws 1 ≤ 32768)
-        go true e = let l = leb-true (word ws 1) 32768 e in (f.sized ∙ size-short ws three l, l)
-        go false e = absurd (let z = f.sized ∙ size-long ws three (leb-false (word ws 1) 32768 e) in let w = f.some in omega arith)
+        go true e = let l = leb-true (word ws 1) 32768 e in (f.sized ∙ size_short ws three l, l)
+        go false e = absurd (let z = f.sized ∙ size_long ws three (leb-false (word ws 1) 32768 e) in let w = f.some in omega arith)
 
-    pub reload-few : length (take (size - 2) (drop 2 ws)) ≤ 32768
-    reload-few = let z = reload-size in rw length-take (omega (arith, z.0, z.1))
+    pub reload_few : length (take (size - 2) (drop 2 ws)) ≤ 32768
+    reload_few = let z = reload_size in rw length-take (omega (arith, z.0, z.1))
 
-    pub call-reload : {bytes : List ℕ} → bytes ≡ take (size - 2) (drop 2 ws) → reload (bytes_of bytes) ≡ trainer_call ws
+    pub call_reload : {bytes : List ℕ} → bytes ≡ take (size - 2) (drop 2 ws) → reload (bytes_of bytes) ≡ trainer_call ws
     unfolding trainer_call
-    call-reload g =
-        let n : size - 2 ≡ word ws 1 = let z = reload-size.0 in omega arith in
+    call_reload g =
+        let n : size - 2 ≡ word ws 1 = let z = reload_size.0 in omega arith in
         rw (← is, ne_eqb code 1 a, ne_eqb code 2 b, g, n)
 
-  pub call-ack : (t : RuleTree) {x y : Float} {d : Draw} {z : ℕ} → code ≡ 4 → x ≡ float ws 1 → y ≡ float ws 2 → z ≡ word ws 3 → d ≡ draw_of z
+  pub call_ack : (t : RuleTree) {x y : Float} {d : Draw} {z : ℕ} → code ≡ 4 → x ≡ float ws 1 → y ≡ float ws 2 → z ≡ word ws 3 → d ≡ draw_of z
       → runs.ack t x y d ≡ sender_call t ws
   unfolding sender_call
-  call-ack t e f g h k = rw (← is, e, f, g, k, h)
+  call_ack t e f g h k = rw (← is, e, f, g, k, h)
 
-  pub call-send : (t : RuleTree) {x : Float} → code ≡ 5 → x ≡ float ws 1 → runs.send x ≡ sender_call t ws
+  pub call_send : (t : RuleTree) {x : Float} → code ≡ 5 → x ≡ float ws 1 → runs.send x ≡ sender_call t ws
   unfolding sender_call
-  call-send t e f = rw (← is, e, f)
+  call_send t e f = rw (← is, e, f)
 
-  pub call-tick : (t : RuleTree) → (code ≡ 4 → ⊥) → (code ≡ 5 → ⊥) → runs.tick ≡ sender_call t ws
+  pub call_tick : (t : RuleTree) → (code ≡ 4 → ⊥) → (code ≡ 5 → ⊥) → runs.tick ≡ sender_call t ws
   unfolding sender_call
-  call-tick t a b = rw (← is, ne_eqb code 4 a, ne_eqb code 5 b)
+  call_tick t a b = rw (← is, ne_eqb code 4 a, ne_eqb code 5 b)
 
-  is-counts : code ≡ 1 → train (trainer_call ws) ≡ item_of ws
+  is_counts : code ≡ 1 → train (trainer_call ws) ≡ item_of ws
   unfolding item_of trainer_call
-  is-counts e = rw (← is, e)
+  is_counts e = rw (← is, e)
 
-  is-score : code ≡ 2 → train (trainer_call ws) ≡ item_of ws
+  is_score : code ≡ 2 → train (trainer_call ws) ≡ item_of ws
   unfolding item_of trainer_call
-  is-score e = rw (← is, e)
+  is_score e = rw (← is, e)
 
-  is-reload : code ≡ 3 → train (trainer_call ws) ≡ item_of ws
+  is_reload : code ≡ 3 → train (trainer_call ws) ≡ item_of ws
   unfolding item_of trainer_call
-  is-reload e = rw (← is, e)
+  is_reload e = rw (← is, e)
 
-  pub item-train : 1 ≤ code → code < 4 → train (trainer_call ws) ≡ item_of ws
-  item-train a b =
-      ⊎_elim (λ (h : code < 2). is-counts (omega arith))
-      (λ (h : 2 ≤ code). ⊎_elim (λ (k : code < 3). is-score (omega arith)) (λ (k : 3 ≤ code). is-reload (omega arith)) (lt_or_le code 3)) (lt_or_le code 2)
+  pub item_train : 1 ≤ code → code < 4 → train (trainer_call ws) ≡ item_of ws
+  item_train a b =
+      ⊎_elim (λ (h : code < 2). is_counts (omega arith))
+      (λ (h : 2 ≤ code). ⊎_elim (λ (k : code < 3). is_score (omega arith)) (λ (k : 3 ≤ code). is_reload (omega arith)) (lt_or_le code 3)) (lt_or_le code 2)
 
-  pub other-settings : code ≡ 15 → train (change (settings_at ws 1 20)) ≡ other_item ws
+  pub other_settings : code ≡ 15 → train (change (settings_at ws 1 20)) ≡ other_item ws
   unfolding other_item
-  other-settings e = rw (← is, e)
+  other_settings e = rw (← is, e)
 
-  pub other-lookup : (code ≡ 15 → ⊥) → lookup (point_of (float ws 1) (float ws 2) (float ws 3)) ≡ other_item ws
+  pub other_lookup : (code ≡ 15 → ⊥) → lookup (point_of (float ws 1) (float ws 2) (float ws 3)) ≡ other_item ws
   unfolding other_item
-  other-lookup n = rw (← is, ne_eqb code 15 n)
+  other_lookup n = rw (← is, ne_eqb code 15 n)
 
-  item-other : (code ≡ 1 → ⊥) → (code ≡ 2 → ⊥) → (code ≡ 3 → ⊥) → (code ≡ 4 → ⊥) → (code ≡ 5 → ⊥) → (code ≡ 6 → ⊥) → other_item ws ≡ item_of ws
+  item_other : (code ≡ 1 → ⊥) → (code ≡ 2 → ⊥) → (code ≡ 3 → ⊥) → (code ≡ 4 → ⊥) → (code ≡ 5 → ⊥) → (code ≡ 6 → ⊥) → other_item ws ≡ item_of ws
   unfolding item_of other_item
-  item-other a b c d e f =
+  item_other a b c d e f =
       rw (← is, ne_eqb code 1 a, ne_eqb code 2 b, ne_eqb code 3 c, ne_eqb code 4 d, ne_eqb code 5 e, ne_eqb code 6 f)
 
-  pub low-other : code < 1 → other_item ws ≡ item_of ws
-  low-other h = item-other (λ e. omega arith) (λ e. omega arith) (λ e. omega arith) (λ e. omega arith) (λ e. omega arith) (λ e. omega arith)
+  pub low_other : code < 1 → other_item ws ≡ item_of ws
+  low_other h = item_other (λ e. omega arith) (λ e. omega arith) (λ e. omega arith) (λ e. omega arith) (λ e. omega arith) (λ e. omega arith)
 
-  pub high-other : 7 ≤ code → other_item ws ≡ item_of ws
-  high-other h = item-other (λ e. omega arith) (λ e. omega arith) (λ e. omega arith) (λ e. omega arith) (λ e. omega arith) (λ e. omega arith)
+  pub high_other : 7 ≤ code → other_item ws ≡ item_of ws
+  high_other h = item_other (λ e. omega arith) (λ e. omega arith) (λ e. omega arith) (λ e. omega arith) (λ e. omega arith) (λ e. omega arith)
 
 -- ---- the list of calls
 pub no_calls : (n : ℕ) (ws : List ℕ) → whole_of ws ≡ false → items_of n ws ≡ []

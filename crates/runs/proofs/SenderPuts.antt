@@ -62,15 +62,15 @@ unfolding trip_words
 known_words e f g = rw (e, f, g)
 
 module _ (out : List ℕ) (at : ℕ) (h : at ≤ length out) {n last : ℕ} {mid after : List ℕ} where
-  pub idle-words : {p : Pending} → p ≡ pending.Idle → Puts out at (0 ∷ (0 ∷ [])) n mid → Puts mid n (0 ∷ (0 ∷ (0 ∷ []))) last after
+  pub idle_words : {p : Pending} → p ≡ pending.Idle → Puts out at (0 ∷ (0 ∷ [])) n mid → Puts mid n (0 ∷ (0 ∷ (0 ∷ []))) last after
       → Puts out at (pending_words p) last after
   unfolding pending_words
-  idle-words e p q = rw e (then out at h p q)
+  idle_words e p q = rw e (then out at h p q)
 
-  pub repeat-words : {p : Pending} {left : ℕ} {a : Action} → p ≡ pending.Repeat left a → Puts out at (1 ∷ (left ∷ [])) n mid
+  pub repeat_words : {p : Pending} {left : ℕ} {a : Action} → p ≡ pending.Repeat left a → Puts out at (1 ∷ (left ∷ [])) n mid
       → Puts mid n (action_words a) last after → Puts out at (pending_words p) last after
   unfolding pending_words
-  repeat-words e p q = rw e (then out at h p q)
+  repeat_words e p q = rw e (then out at h p q)
 
 -- a number, a window, a flag and a wait
 pub reaction_words_lem : (out : List ℕ) (at : ℕ) (clipped : Bool) (wait : Float) {x y f w n m : ℕ} {mid after : List ℕ} → at ≤ length out

@@ -3,7 +3,6 @@ use mathlib.Core.Path.{◌≡◌}
 use mathlib.Core.List.{List}
 use Prim.Native.Nat.{ℕ, ◌+◌, ◌<◌, ◌≤◌}
 use borrow.Author.Tests.{ne_eqb, le-leb, lt-leb}
-use lib.Dec.{eqb, leb}
 use lib.Ieee.{Float}
 use Rattle.quantities.specs.declared.Time.{Time}
 use Rattle.quantities.specs.Time.{span, moment}

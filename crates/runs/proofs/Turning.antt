@@ -3,7 +3,7 @@ use mathlib.Core.Path.{◌≡◌, refl, sym, ap, subst, ◌∙◌}
 use mathlib.Core.Bool.{Bool, true, false, cond}
 use mathlib.Core.List.{List, [], ◌∷◌, ◌++◌}
 use mathlib.Core.Logic.{⊎_elim}
-use Prim.Native.Nat.{ℕ, ◌+◌, ◌-◌, ◌<◌, ◌≤◌}
+use Prim.Native.Nat.{ℕ, ◌-◌, ◌<◌, ◌≤◌}
 use native.Mathlib.Omega.{arith}
 use borrow.Author.Tests.{eq-eqb, ne_eqb, leb-true}
 use lib.Dec.{eqb, leb}
@@ -101,41 +101,41 @@ module _ (t : Trainer) (out : List ℕ) (at : ℕ) where
     pub by_bytes : {bs cs : List ℕ} → bs ≡ cs → Trains out at (step_of t (plain.reload bs)) q after → Trains out at (step_of t (plain.reload cs)) q after
     by_bytes e m = subst (λ (z : List ℕ). Trains out at (step_of t (plain.reload z)) q after) e m
 
-    pub of-call : {c d : plain.Call} → c ≡ d → Trains out at (step_of t c) q after → Trains out at (step_of t d) q after
-    of-call e m = subst (λ (z : plain.Call). Trains out at (step_of t z) q after) e m
+    pub of_call : {c d : plain.Call} → c ≡ d → Trains out at (step_of t c) q after → Trains out at (step_of t d) q after
+    of_call e m = subst (λ (z : plain.Call). Trains out at (step_of t z) q after) e m
 
-    pub by-counts : (xs : List ℕ) {a : Answered} → a ≡ answer_counts_of t xs → Trains out at (after_call t a 0 []) q after
+    pub by_counts : (xs : List ℕ) {a : Answered} → a ≡ answer_counts_of t xs → Trains out at (after_call t a 0 []) q after
         → Trains out at (step_of t (plain.counts xs)) q after
     unfolding step_of
-    by-counts xs e l = rw e at l
+    by_counts xs e l = rw e at l
 
-    pub by-score : (x : Float) {a : Answered} → a ≡ answer_score_of t x → Trains out at (after_call t a 0 []) q after
+    pub by_score : (x : Float) {a : Answered} → a ≡ answer_score_of t x → Trains out at (after_call t a 0 []) q after
         → Trains out at (step_of t (plain.score x)) q after
     unfolding step_of
-    by-score x e l = rw e at l
+    by_score x e l = rw e at l
 
-    pub by-settings : (s : Settings) {a : Answered} → a ≡ change_of t s → Trains out at (after_call t a 0 []) q after
+    pub by_settings : (s : Settings) {a : Answered} → a ≡ change_of t s → Trains out at (after_call t a 0 []) q after
         → Trains out at (step_of t (plain.change s)) q after
     unfolding step_of
-    by-settings s e l = rw e at l
+    by_settings s e l = rw e at l
 
     -- a save that is taken, and the load of its bytes
-    pub by-load : (buf : List ℕ) (n : ℕ) {s : Saved} {a : Answered} {last : List ℕ} → s ≡ save_of t buf → s ≡ saved.Size n
+    pub by_load : (buf : List ℕ) (n : ℕ) {s : Saved} {a : Answered} {last : List ℕ} → s ≡ save_of t buf → s ≡ saved.Size n
         → length last ≡ length buf → last ≡ buffer_after t buf (save_of t buf) → a ≡ load_of (take (n - 0) last)
         → Trains out at (after_call t a (length (take (n - 0) last)) (take (n - 0) last)) q after
         → Trains out at (step_of t (plain.reload buf)) q after
     unfolding step_of reloaded
-    by-load buf n {last = last} e f k g h l =
+    by_load buf n {last = last} e f k g h l =
         let b = lent t buf n e g in
         let w = save_fits t buf n (sym f ∙ e) in
         let c : length (take (n - 0) last) ≡ n = length-take-le (n - 0) last (omega arith) ∙ (let z : n - 0 ≡ n = omega arith in z) in
         rw (← e, f) (rw (h, c, b, f) at l)
 
     -- a save that is refused
-    pub by-refusal : (buf : List ℕ) (k : ℕ) {s : Saved} → s ≡ save_of t buf → s ≡ saved.Refused k
+    pub by_refusal : (buf : List ℕ) (k : ℕ) {s : Saved} → s ≡ save_of t buf → s ≡ saved.Refused k
         → Trains out at (after_call t (record { refused = k; trainer = t }) 0 []) q after → Trains out at (step_of t (plain.reload buf)) q after
     unfolding step_of reloaded
-    by-refusal buf k e f l = rw (← e, f) (rw (kept_same (eqb k 0) t) at l)
+    by_refusal buf k e f l = rw (← e, f) (rw (kept_same (eqb k 0) t) at l)
 
 -- ---- the record at the end
 module _ (t : Trainer) (out : List ℕ) (at : ℕ) (h : at ≤ length out) where
@@ -144,11 +144,11 @@ module _ (t : Trainer) (out : List ℕ) (at : ℕ) (h : at ≤ length out) where
   unfolding end_words
   end_none k e f = rw (← e, f) (nothing out at h)
 
-  pub end-put : (n : ℕ) {s : Saved} {last : List ℕ} {m end : ℕ} {one after : List ℕ} → s ≡ save_of t (replicate 16388 0) → s ≡ saved.Size n
+  pub end_put : (n : ℕ) {s : Saved} {last : List ℕ} {m end : ℕ} {one after : List ℕ} → s ≡ save_of t (replicate 16388 0) → s ≡ saved.Size n
       → last ≡ buffer_after t (replicate 16388 0) (save_of t (replicate 16388 0)) → Puts out at (n ∷ []) m one → Puts one m (take (n - 0) last) end after
       → Puts out at (end_words t (save_of t (replicate 16388 0))) end after
   unfolding end_words
-  end-put n e f g p b = rw (← e, f) (rw (lent t (replicate 16388 0) n e g, f) at (then out at h p b))
+  end_put n e f g p b = rw (← e, f) (rw (lent t (replicate 16388 0) n e g, f) at (then out at h p b))
 
 -- ---- calls to the sender
 module _ (s : Sender) (out : List ℕ) (at : ℕ) where
@@ -163,22 +163,22 @@ module _ (s : Sender) (out : List ℕ) (at : ℕ) where
   refused k e p = rw e (record { sender = refl; puts = p })
 
   module _ (q : Reacted) (after : List ℕ) where
-    pub of-move : {c d : runs.SenderCall RuleTree} → c ≡ d → Moves out at (sender_step s c) q after → Moves out at (sender_step s d) q after
-    of-move e m = subst (λ (z : runs.SenderCall RuleTree). Moves out at (sender_step s z) q after) e m
+    pub of_move : {c d : runs.SenderCall RuleTree} → c ≡ d → Moves out at (sender_step s c) q after → Moves out at (sender_step s d) q after
+    of_move e m = subst (λ (z : runs.SenderCall RuleTree). Moves out at (sender_step s z) q after) e m
 
-    pub by-ack : (t : RuleTree) (sent received : Float) (draw : Draw) {answer : Reply} → answer ≡ ack_of t s sent received draw
+    pub by_ack : (t : RuleTree) (sent received : Float) (draw : Draw) {answer : Reply} → answer ≡ ack_of t s sent received draw
         → Moves out at (after_reply s answer) q after → Moves out at (sender_step s (runs.ack t sent received draw)) q after
     unfolding sender_step
-    by-ack t sent received draw e l = rw e at l
+    by_ack t sent received draw e l = rw e at l
 
-    pub by-send : (x : Float) {answer : Reply} → answer ≡ send_of s x → Moves out at (after_reply s answer) q after
+    pub by_send : (x : Float) {answer : Reply} → answer ≡ send_of s x → Moves out at (after_reply s answer) q after
         → Moves out at (sender_step s (runs.send x)) q after
     unfolding sender_step
-    by-send x e l = rw e at l
+    by_send x e l = rw e at l
 
-    pub by-tick : {h : Held} → h ≡ tick_of s → Moves out at (after_reply s (reply.Taken h)) q after → Moves out at (sender_step s runs.tick) q after
+    pub by_tick : {h : Held} → h ≡ tick_of s → Moves out at (after_reply s (reply.Taken h)) q after → Moves out at (sender_step s runs.tick) q after
     unfolding sender_step after_reply
-    by-tick e l = rw e at l
+    by_tick e l = rw e at l
 
 -- ---- a lookup
 pub looked : (t : RuleTree) (out : List ℕ) (at : ℕ) {x y z u v w : Float} {p : Point} {l : Lookup} {end : ℕ} {after : List ℕ} → x ≡ u → y ≡ v
@@ -208,25 +208,25 @@ module _ (t : Trainer) (s : Sender) (ws : List ℕ) (code : ℕ) (is : code ≡ 
   SameTurn : Type 0
   SameTurn = sender_turn t (sender_step s (sender_call t.tree ws)) ≡ turn_of t s (item_of ws)
 
-  is-ack : code ≡ 4 → SameTurn
+  is_ack_lem : code ≡ 4 → SameTurn
   unfolding SameTurn item_of sender_call turn_of
-  is-ack e = rw (← is, e)
+  is_ack_lem e = rw (← is, e)
 
-  is-send : code ≡ 5 → SameTurn
+  is_send : code ≡ 5 → SameTurn
   unfolding SameTurn item_of sender_call turn_of
-  is-send e = rw (← is, e)
+  is_send e = rw (← is, e)
 
-  is-tick : code ≡ 6 → SameTurn
+  is_tick : code ≡ 6 → SameTurn
   unfolding SameTurn item_of sender_call turn_of
-  is-tick e = rw (← is, e)
+  is_tick e = rw (← is, e)
 
-  sender-turn : 4 ≤ code → code < 7 → SameTurn
-  sender-turn a b =
-      ⊎_elim (λ (h : code < 5). is-ack (omega arith))
-      (λ (h : 5 ≤ code). ⊎_elim (λ (k : code < 6). is-send (omega arith)) (λ (k : 6 ≤ code). is-tick (omega arith)) (lt_or_le code 6)) (lt_or_le code 5)
+  sender_turn_lem : 4 ≤ code → code < 7 → SameTurn
+  sender_turn_lem a b =
+      ⊎_elim (λ (h : code < 5). is_ack_lem (omega arith))
+      (λ (h : 5 ≤ code). ⊎_elim (λ (k : code < 6). is_send (omega arith)) (λ (k : 6 ≤ code). is_tick (omega arith)) (lt_or_le code 6)) (lt_or_le code 5)
 
 pub by_sender : (r : State) (out : List ℕ) (q : State) (after ws : List ℕ) (code : ℕ) → code ≡ word ws 0 → 4 ≤ code → code < 7
     → Leaves out r.at (sender_turn r.trainer (sender_step r.sender (sender_call r.trainer.tree ws))) q after → Makes r (item_of ws) out q after
 unfolding SameTurn
 by_sender r out q after ws code is a b l =
-    subst (λ (u : Turn). Leaves out r.at u q after) (sender-turn r.trainer r.sender ws code is a b) l
+    subst (λ (u : Turn). Leaves out r.at u q after) (sender_turn_lem r.trainer r.sender ws code is a b) l

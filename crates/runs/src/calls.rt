@@ -20,14 +20,14 @@ use trainer::settings::Settings;
 use trainer::{Answered, Trainer};
 
 // The trainer after a call, and the place after the call's words.
-#[derive(Drop)]
+#[derive(Clone, Copy)]
 pub(crate) struct Trained {
     pub(crate) trainer: Trainer,
     pub(crate) at: usize,
 }
 
 // The sender after a call, and the place after the call's words.
-#[derive(Drop)]
+#[derive(Clone, Copy)]
 pub(crate) struct Reacted {
     pub(crate) sender: Sender,
     pub(crate) at: usize,

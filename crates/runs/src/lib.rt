@@ -1,4 +1,6 @@
 // A list of calls, made on a fresh trainer and on a sender that is fresh or handed in, and the words that are compared.
+#![tactic(auto)]
+
 ghost use Rattle.std.specs.Prelude.{◌≡◌, min, ◌≤◌, ◌<◌, ◌∷◌, ◌++◌, length, drop};
 ghost use Rattle.remy.specs.Cube.{point_of};
 ghost use Rattle.trainer.specs.Calls.{question_of};
@@ -18,7 +20,7 @@ mod script;
 mod words;
 
 // What the calls act on, and the place in the words.
-#[derive(Drop)]
+#[derive(Clone, Copy)]
 struct State {
     trainer: Trainer,
     sender: Sender,
