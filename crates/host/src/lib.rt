@@ -1,9 +1,11 @@
 // The library for hosts in C and Rust: every function works on numbers and byte slices, is total on any bytes, and answers a size or
 // 2^63 plus the number of a refusal.
+#![tactic(auto)]
+
 ghost use Rattle.std.specs.Prelude.{◌≡◌};
 ghost use Rattle.record.specs.Calls.{load_of};
 ghost use Rattle.panel_lines.specs.Panel.{panel_of, out_after};
-ghost use Rattle.trace_lines.specs.Trace.{trace_of, out_after as traceAfter};
+ghost use Rattle.trace_lines.specs.Trace.{trace_of, out_after as trace_after};
 ghost use Rattle.host_trainer.specs.Records.{start_in, score_answered, counts_answered, written_of, record_after};
 ghost use Rattle.host_trainer.specs.Questions.{asked_in_of, asked_after};
 ghost use Rattle.host_trainer.specs.Lookups.{lookups, lookups_after, replaced, replaced_after};
@@ -19,7 +21,7 @@ ghost use Rattle.host_sender.specs.Layout.{new_in, new_after};
 ghost use Rattle.host_sender.specs.Events.{events as events_of, sender_left, replies_left};
 ghost use Rattle.host_draws.specs.Steps.{step_in, step_left, output_left, back_in, back_left};
 ghost use Rattle.host_draws.specs.OwnEvents.{own_in, own_sender, own_generator, own_out_of};
-ghost use Rattle.host_burst.specs.Bursts.{burst_in, sender_left as burstSender, windows_left, flags_left};
+ghost use Rattle.host_burst.specs.Bursts.{burst_in, sender_left as burst_sender, windows_left, flags_left};
 ghost use Rattle.host.specs.Answers.{answer_of};
 
 use record::Saved;
@@ -143,7 +145,7 @@ pub extern "C" fn knellstone_burst(
     windows: &mut [u8],
     clipped: &mut [u8],
 ) -> u64
-    ensures { (result ≡ answer_of (burst_in held.now sender.old list.now windows.old clipped.old)) × ((sender.new ≡ burstSender held.now sender.old list.now windows.old clipped.old) × ((windows.new ≡ windows_left held.now sender.old list.now windows.old clipped.old) × (clipped.new ≡ flags_left held.now sender.old list.now windows.old clipped.old))) }
+    ensures { (result ≡ answer_of (burst_in held.now sender.old list.now windows.old clipped.old)) × ((sender.new ≡ burst_sender held.now sender.old list.now windows.old clipped.old) × ((windows.new ≡ windows_left held.now sender.old list.now windows.old clipped.old) × (clipped.new ≡ flags_left held.now sender.old list.now windows.old clipped.old))) }
 {
     let s = host_burst::burst(held, sender, list, windows, clipped);
     answer(s)
@@ -161,7 +163,7 @@ pub extern "C" fn knellstone_panel(input: &[u8], out: &mut [u8]) -> u64
 // The lines of a record followed by a trace: a window or a refusal for each event, on a fresh sender with repeat off.
 #[unsafe(no_mangle)]
 pub extern "C" fn knellstone_trace(input: &[u8], out: &mut [u8]) -> u64
-    ensures { (result ≡ answer_of (trace_of input.now out.old)) × (out.new ≡ traceAfter input.now out.old (trace_of input.now out.old)) }
+    ensures { (result ≡ answer_of (trace_of input.now out.old)) × (out.new ≡ trace_after input.now out.old (trace_of input.now out.old)) }
 {
     let s = trace_lines::trace(input, out);
     answer(s)

@@ -2,7 +2,7 @@
 use mathlib.Core.Path.{◌≡◌, sym, ap, ◌∙◌}
 use mathlib.Core.Bool.{true}
 use mathlib.Core.List.{List}
-use Prim.Native.Nat.{ℕ, ◌+◌, ◌-◌, ◌*◌, ◌<◌, ◌≤◌}
+use Prim.Native.Nat.{ℕ, ◌+◌, ◌*◌, ◌<◌, ◌≤◌}
 use native.Mathlib.Omega.{arith}
 use lib.ListN.{length, get_or, take, drop, length-drop, drop_of_length-le}
 use borrow.Author.Tests.{eq-eqb, ne_eqb, le-leb, lt-leb}
@@ -21,17 +21,17 @@ counts_answered_lem t e q = q ∙ ap (answer_counts_of t) e
 
 -- ---- where a group ends
 module _ (bytes : List ℕ) {n : ℕ} (e : n ≡ number_at bytes 1 2) where
-  pub rest-whole : 3 + 8 * n ≤ length bytes → (3 + 8 * n ≤ length bytes) × (drop (3 + 8 * n) bytes ≡ drop (group_size bytes) bytes)
-  rest-whole h = (h, ap (λ (k : ℕ). drop (3 + 8 * k) bytes) e)
+  pub rest_whole : 3 + 8 * n ≤ length bytes → (3 + 8 * n ≤ length bytes) × (drop (3 + 8 * n) bytes ≡ drop (group_size bytes) bytes)
+  rest_whole h = (h, ap (λ (k : ℕ). drop (3 + 8 * k) bytes) e)
 
-  pub rest-cut : length bytes < 3 + 8 * n → (length bytes ≤ length bytes) × (drop (length bytes) bytes ≡ drop (group_size bytes) bytes)
-  rest-cut h = (omega arith, drop-length bytes ∙ sym (drop_of_length-le bytes {i = 3 + 8 * n} (omega arith)) ∙ ap (λ (k : ℕ). drop (3 + 8 * k) bytes) e)
+  pub rest_cut : length bytes < 3 + 8 * n → (length bytes ≤ length bytes) × (drop (length bytes) bytes ≡ drop (group_size bytes) bytes)
+  rest_cut h = (omega arith, drop-length bytes ∙ sym (drop_of_length-le bytes {i = 3 + 8 * n} (omega arith)) ∙ ap (λ (k : ℕ). drop (3 + 8 * k) bytes) e)
 
 -- ---- the group by its kind
 module _ (t : Trainer) (bytes : List ℕ) {n : ℕ} (e : n ≡ number_at bytes 1 2) where
-  pub group-cut : length bytes < 3 + 8 * n → refuse 6 t ≡ group_on bytes t
+  pub group_cut : length bytes < 3 + 8 * n → refuse 6 t ≡ group_on bytes t
   unfolding group_on
-  group-cut h = rw (ap (λ (k : ℕ). leb (3 + 8 * k) (length bytes)) (sym e) ∙ lt-leb (3 + 8 * n) (length bytes) h)
+  group_cut h = rw (ap (λ (k : ℕ). leb (3 + 8 * k) (length bytes)) (sym e) ∙ lt-leb (3 + 8 * n) (length bytes) h)
 
   module _ (h : 3 + 8 * n ≤ length bytes) where
     long : leb (group_size bytes) (length bytes) ≡ true
@@ -40,21 +40,21 @@ module _ (t : Trainer) (bytes : List ℕ) {n : ℕ} (e : n ≡ number_at bytes 1
     body : (m : ℕ) → m ≡ 8 * n → take m (drop 3 bytes) ≡ group_body bytes
     body m q = ap (λ (k : ℕ). take k (drop 3 bytes)) (q ∙ ap (λ (k : ℕ). 8 * k) e)
 
-    pub body-long : (m : ℕ) → m ≡ 8 * n → 8 * n ≤ length (take m (drop 3 bytes))
-    body-long m q = omega (arith, length-take-le m (drop 3 bytes) (omega (arith, length-drop 3 bytes)))
+    pub body_long : (m : ℕ) → m ≡ 8 * n → 8 * n ≤ length (take m (drop 3 bytes))
+    body_long m q = omega (arith, length-take-le m (drop 3 bytes) (omega (arith, length-drop 3 bytes)))
 
     module _ {kind : ℕ} (k : kind ≡ get_or bytes 0 0) where
-      pub group-counts : {r : Answered} (m : ℕ) → m ≡ 8 * n → kind ≡ 1 → r ≡ answer_counts_of t (counts_in (take m (drop 3 bytes))) → r ≡ group_on bytes t
+      pub group_counts : {r : Answered} (m : ℕ) → m ≡ 8 * n → kind ≡ 1 → r ≡ answer_counts_of t (counts_in (take m (drop 3 bytes))) → r ≡ group_on bytes t
       unfolding group_on
-      group-counts m q z er =
+      group_counts m q z er =
           rw (long, eq-eqb (get_or bytes 0 0) 1 (sym k ∙ z)) (er ∙ ap (λ (l : List ℕ). answer_counts_of t (counts_in l)) (body m q))
 
-      pub group-scores : {r : Answered} (m : ℕ) → m ≡ 8 * n → (kind ≡ 1 → ⊥) → kind ≡ 2 → r ≡ scores_on t (take m (drop 3 bytes)) n → r ≡ group_on bytes t
+      pub group_scores : {r : Answered} (m : ℕ) → m ≡ 8 * n → (kind ≡ 1 → ⊥) → kind ≡ 2 → r ≡ scores_on t (take m (drop 3 bytes)) n → r ≡ group_on bytes t
       unfolding group_on
-      group-scores m q y z er =
+      group_scores m q y z er =
           rw (long, ne_eqb (get_or bytes 0 0) 1 (λ x. y (k ∙ x)), eq-eqb (get_or bytes 0 0) 2 (sym k ∙ z))
           (er ∙ ap (λ (l : List ℕ). scores_on t l n) (body m q) ∙ ap (scores_on t (group_body bytes)) e)
 
-      pub group-other : (kind ≡ 1 → ⊥) → (kind ≡ 2 → ⊥) → refuse 6 t ≡ group_on bytes t
+      pub group_other : (kind ≡ 1 → ⊥) → (kind ≡ 2 → ⊥) → refuse 6 t ≡ group_on bytes t
       unfolding group_on
-      group-other y z = rw (long, ne_eqb (get_or bytes 0 0) 1 (λ x. y (k ∙ x)), ne_eqb (get_or bytes 0 0) 2 (λ x. z (k ∙ x)))
+      group_other y z = rw (long, ne_eqb (get_or bytes 0 0) 1 (λ x. y (k ∙ x)), ne_eqb (get_or bytes 0 0) 2 (λ x. z (k ∙ x)))

@@ -25,7 +25,7 @@ use Rattle.record.proofs.Loading.{load_again}
 use Rattle.host_trainer.specs.Records.{on_trainer, counts_in}
 use Rattle.host_answers.specs.Answers.{scores_on, group_count, group_size, group_body, group_on, groups_on, answers_in}
 use Rattle.host_answers.specs.Parts.{Ready}
-use Rattle.host_answers.proofs.Scores.{held_from, on_refused, on_taken, scores-held}
+use Rattle.host_answers.proofs.Scores.{held_from, on_refused, on_taken, scores_held}
 
 -- ---- the trainer of a record
 read_whole : (lay : Layout) (held : List ℕ) → length (read_in lay held).tree.nodes ≡ 513
@@ -63,7 +63,7 @@ group_held t bytes h = go (leb (group_size bytes) (length bytes)) (eqb (get_or b
         (refuse 6 t)
         ).trainer
     go true true c = counts_held t (counts_in (group_body bytes)) h
-    go true false true = scores-held t (group_body bytes) h (group_count bytes)
+    go true false true = scores_held t (group_body bytes) h (group_count bytes)
     go true false false = h
     go false b c = h
 
@@ -107,16 +107,16 @@ pub rest_inside : (list : List ℕ) (at m r : ℕ) → at ≤ length list → m 
 rest_inside list at m r l em h = omega (arith, length-take-le m (drop at list) (omega (arith, length-drop at list)))
 
 module _ (held list : List ℕ) where
-  pub groups-begin : {a : Answered} → a ≡ load_of held → Going held list a 0
+  pub groups_begin : {a : Answered} → a ≡ load_of held → Going held list a 0
   unfolding answers_in
-  groups-begin e = record { fuel = length list; enough = omega arith; same = ap (groups_on (length list) list) e }
+  groups_begin e = record { fuel = length list; enough = omega arith; same = ap (groups_on (length list) list) e }
 
   module _ (a : Answered) (at : ℕ) (g : Going held list a at) where
-    pub groups-refused : (a.refused ≡ 0 → ⊥) → a ≡ answers_in held list
-    groups-refused n = sym (groups_stay g.fuel (drop at list) a n) ∙ g.same
+    pub groups_refused : (a.refused ≡ 0 → ⊥) → a ≡ answers_in held list
+    groups_refused n = sym (groups_stay g.fuel (drop at list) a n) ∙ g.same
 
-    pub groups-done : length list ≤ at → a ≡ answers_in held list
-    groups-done l = sym (groups_end g.fuel (drop at list) a (omega (arith, length-drop at list))) ∙ g.same
+    pub groups_done : length list ≤ at → a ≡ answers_in held list
+    groups_done l = sym (groups_end g.fuel (drop at list) a (omega (arith, length-drop at list))) ∙ g.same
 
     module _ (m r : ℕ) (l : at < length list) (em : m ≡ length list - at)
         (er : drop r (take m (drop at list)) ≡ drop (group_size (take m (drop at list))) (take m (drop at list))) where
@@ -131,8 +131,8 @@ module _ (held list : List ℕ) where
           omega
           (arith, ap length er', length-drop r (drop at list), length-drop (group_size (drop at list)) (drop at list), length-drop at list)
 
-      pub groups-next : {b : Answered} → a.refused ≡ 0 → b ≡ group_on (take m (drop at list)) a.trainer → Going held list b (at + r)
-      groups-next {b} z eb = go g.fuel g.enough g.same
+      pub groups_next : {b : Answered} → a.refused ≡ 0 → b ≡ group_on (take m (drop at list)) a.trainer → Going held list b (at + r)
+      groups_next {b} z eb = go g.fuel g.enough g.same
         where
           go : (fuel : ℕ) → length list ≤ at + fuel → groups_on fuel (drop at list) a ≡ answers_in held list → Going held list b (at + r)
           go zero h q = absurd (omega arith)

@@ -16,7 +16,7 @@ use Rattle.trainer.specs.declared.Answered.{Answered}
 use Rattle.trainer.specs.State.{accepted_of}
 use Rattle.trainer.specs.Phases.{refuse, taken}
 use Rattle.trainer.specs.Calls.{wants_score, answer_score_of, score_step}
-use Rattle.trainer.proofs.Steps.{score-unwanted, score-taken}
+use Rattle.trainer.proofs.Steps.{score_unwanted, score_taken}
 use Rattle.trainer.proofs.Accepting.{Held, score_held}
 use Rattle.wire.specs.Bytes.{value_from}
 use Rattle.wire.specs.Fields.{float_at}
@@ -53,20 +53,20 @@ module _ (t : Trainer) (scores : List ℕ) where
   abbrev next : ℕ → Trainer → Answered
   next i u = answer_score_of u (float_at scores (8 * i))
 
-  pub scores-none : scores_on t scores 0 ≡ taken t
+  pub scores_none : scores_on t scores 0 ≡ taken t
   unfolding scores_on
-  scores-none = refl
+  scores_none = refl
 
-  pub scores-more : (i : ℕ) → scores_on t scores (i + 1) ≡ on_trainer (scores_on t scores i) (next i)
+  pub scores_more : (i : ℕ) → scores_on t scores (i + 1) ≡ on_trainer (scores_on t scores i) (next i)
   unfolding scores_on
-  scores-more i = rw (add-one i)
+  scores_more i = rw (add-one i)
 
-  pub scores-held : Held t → (n : ℕ) → Held (scores_on t scores n).trainer
+  pub scores_held : Held t → (n : ℕ) → Held (scores_on t scores n).trainer
   unfolding scores_on
-  scores-held h zero = h
-  scores-held h (suc n) =
-      on_held (scores_on t scores n) (next n) (scores-held h n)
-      (score_held (scores_on t scores n).trainer (float_at scores (8 * n)) (scores-held h n))
+  scores_held h zero = h
+  scores_held h (suc n) =
+      on_held (scores_on t scores n) (next n) (scores_held h n)
+      (score_held (scores_on t scores n).trainer (float_at scores (8 * n)) (scores_held h n))
 
   -- after a refusal none is answered
   stays : (i d : ℕ) → ((scores_on t scores i).refused ≡ 0 → ⊥) → scores_on t scores (i + d) ≡ scores_on t scores i
@@ -77,27 +77,27 @@ module _ (t : Trainer) (scores : List ℕ) where
       ∙ ap (λ (a : Answered). on_trainer a (next (i + d))) (stays i d n)
       ∙ on_refused (scores_on t scores i) (next (i + d)) n
 
-  pub scores-stay : (i n : ℕ) (a : Answered) → scores_on t scores i ≡ a → (a.refused ≡ 0 → ⊥) → i ≤ n → a ≡ scores_on t scores n
-  scores-stay i n a e r l =
+  pub scores_stay : (i n : ℕ) (a : Answered) → scores_on t scores i ≡ a → (a.refused ≡ 0 → ⊥) → i ≤ n → a ≡ scores_on t scores n
+  scores_stay i n a e r l =
       sym e ∙ sym (stays i (n - i) (λ z. r (ap (λ (x : Answered). x.refused) (sym e) ∙ z)))
       ∙ ap (scores_on t scores) (let q : i + (n - i) ≡ n = omega arith in q)
 
   module _ (h : Held t) (i : ℕ) (v : Trainer) (e : scores_on t scores i ≡ taken v) where
-    pub now-held : Held v
-    now-held = subst (λ (a : Answered). Held a.trainer) e (scores-held h i)
+    pub now_held : Held v
+    now_held = subst (λ (a : Answered). Held a.trainer) e (scores_held h i)
 
     turned : scores_on t scores (i + 1) ≡ answer_score_of v (float_at scores (8 * i))
-    turned = scores-more i ∙ on_taken v (next i) e
+    turned = scores_more i ∙ on_taken v (next i) e
 
     -- a trainer that asks for no score refuses it
-    pub refused-from : (n : ℕ) → wants_score v.phase ≡ false → i < n → refuse 21 v ≡ scores_on t scores n
-    refused-from n w l =
-        scores-stay (i + 1) n (refuse 21 v)
-        (turned ∙ sym (score-unwanted v (accepted_of v) refl (wants_score v.phase) now-held.accepted (float_at scores (8 * i)) refl w))
+    pub refused_from : (n : ℕ) → wants_score v.phase ≡ false → i < n → refuse 21 v ≡ scores_on t scores n
+    refused_from n w l =
+        scores_stay (i + 1) n (refuse 21 v)
+        (turned ∙ sym (score_unwanted v (accepted_of v) refl (wants_score v.phase) now_held.accepted (float_at scores (8 * i)) refl w))
         (λ z. absurd (omega arith)) (omega arith)
 
-    pub taken-from : wants_score v.phase ≡ true → scores_on t scores (i + 1) ≡ taken (score_step v (float_at scores (8 * i)))
-    taken-from w =
+    pub taken_from : wants_score v.phase ≡ true → scores_on t scores (i + 1) ≡ taken (score_step v (float_at scores (8 * i)))
+    taken_from w =
         turned
         ∙ sym
-        (score-taken v (accepted_of v) refl (wants_score v.phase) now-held.accepted (float_at scores (8 * i)) (score_step v (float_at scores (8 * i))) refl w refl)
+        (score_taken v (accepted_of v) refl (wants_score v.phase) now_held.accepted (float_at scores (8 * i)) (score_step v (float_at scores (8 * i))) refl w refl)

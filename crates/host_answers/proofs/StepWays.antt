@@ -23,40 +23,40 @@ pub begun_is : (s : Settings) (a : Action) (best : Float) {n : ℕ} {r : Tuned} 
 begun_is s a best e q = q ∙ ap (begun_with a best) e
 
 module _ (s : Settings) (u : Tuned) where
-  pub k-few : Tuning s u → u.k < 4096
-  k-few h = omega (arith, h.k, h.count, candidates_few s u.action)
+  pub k_few : Tuning s u → u.k < 4096
+  k_few h = omega (arith, h.k, h.count, candidates_few s u.action)
 
   module _ (kept : ℕ) where
     pub kept_listed : Tuning s u → Among u kept → (kept ≡ none → ⊥) → kept < length (candidates_of s u.action)
     kept_listed h (inl e) n = absurd (n e)
     kept_listed h (inr l) n = subst (λ (m : ℕ). kept < m) h.count l
 
-    pub kept-valid : {c : Action} → Tuning s u → Among u kept → (kept ≡ none → ⊥) → c ≡ get_or (candidates_of s u.action) kept no_candidate → valid_of c ≡ true
-    kept-valid h m n e = ap valid_of e ∙ candidate_valid s u.action kept no_candidate h.settings (kept_listed h m n)
+    pub kept_valid : {c : Action} → Tuning s u → Among u kept → (kept ≡ none → ⊥) → c ≡ get_or (candidates_of s u.action) kept no_candidate → valid_of c ≡ true
+    kept_valid h m n e = ap valid_of e ∙ candidate_valid s u.action kept no_candidate h.settings (kept_listed h m n)
 
     module _ (score : Float) where
       pub last_none : kept ≡ none → finished_of u kept score ≡ last_of s u kept score
       unfolding last_of
       last_none e = rw (eq-eqb kept none e)
 
-      pub last-kept : {c : Action} {n : ℕ} {r : Tuned} → (kept ≡ none → ⊥) → c ≡ get_or (candidates_of s u.action) kept no_candidate
+      pub last_kept : {c : Action} {n : ℕ} {r : Tuned} → (kept ≡ none → ⊥) → c ≡ get_or (candidates_of s u.action) kept no_candidate
           → n ≡ length (candidates_of s c) → r ≡ begun_with c score n → r ≡ last_of s u kept score
       unfolding last_of
-      last-kept {c} z e en q = rw (ne_eqb kept none z) (begun_is s c score en q ∙ ap (λ (x : Action). begin_of s x score) e)
+      last_kept {c} z e en q = rw (ne_eqb kept none z) (begun_is s c score en q ∙ ap (λ (x : Action). begin_of s x score) e)
 
-      pub tried-more : u.k + 1 < u.count → next_of u (u.k + 1) kept score ≡ tried_of s u kept score
+      pub tried_more : u.k + 1 < u.count → next_of u (u.k + 1) kept score ≡ tried_of s u kept score
       unfolding tried_of
-      tried-more l = rw (lt-ltb (u.k + 1) u.count l)
+      tried_more l = rw (lt-ltb (u.k + 1) u.count l)
 
-      pub tried-last : {r : Tuned} → u.count ≤ u.k + 1 → r ≡ last_of s u kept score → r ≡ tried_of s u kept score
+      pub tried_last : {r : Tuned} → u.count ≤ u.k + 1 → r ≡ last_of s u kept score → r ≡ tried_of s u kept score
       unfolding tried_of
-      tried-last l q = rw (le-ltb (u.k + 1) u.count l) q
+      tried_last l q = rw (le-ltb (u.k + 1) u.count l) q
 
   module _ (x : Float) {v : Kept} (e : v ≡ noted_of u x) where
     -- what is kept is a number of the list, or none
-    pub noted-among : Tuning s u → Among u u.kept → Among u v.kept
+    pub noted_among : Tuning s u → Among u u.kept → Among u v.kept
     unfolding noted_of
-    noted-among h m = subst (λ (y : Kept). Among u y.kept) (sym e) (go (keeps_in u.best u.kept u.score x))
+    noted_among h m = subst (λ (y : Kept). Among u y.kept) (sym e) (go (keeps_in u.best u.kept u.score x))
       where
         go : (b : Bool) → Among u (cond b (kept_at u.k x) (kept_at u.kept u.score)).kept
         go true = inr h.k
@@ -67,32 +67,32 @@ module _ (s : Settings) (u : Tuned) where
     step_is q = q ∙ ap (λ (y : Kept). tried_of s u y.kept y.score) e
 
 module _ (u : Tuned) (x : Float) {b : Bool} (e : b ≡ keeps_in u.best u.kept u.score x) where
-  pub note-kept : b ≡ true → kept_at u.k x ≡ noted_of u x
+  pub note_kept : b ≡ true → kept_at u.k x ≡ noted_of u x
   unfolding noted_of
-  note-kept h = rw (sym e ∙ h)
+  note_kept h = rw (sym e ∙ h)
 
-  pub note-passed : b ≡ false → kept_at u.kept u.score ≡ noted_of u x
+  pub note_passed : b ≡ false → kept_at u.kept u.score ≡ noted_of u x
   unfolding noted_of
-  note-passed h = rw (sym e ∙ h)
+  note_passed h = rw (sym e ∙ h)
 
 -- ---- the count stays that of the action, or is 0
 module _ (s : Settings) (u : Tuned) where
-  last-counted : (kept : ℕ) (score : Float) → Counted s (last_of s u kept score)
+  last_counted : (kept : ℕ) (score : Float) → Counted s (last_of s u kept score)
   unfolding last_of
-  last-counted kept score = go (eqb kept none)
+  last_counted kept score = go (eqb kept none)
     where
       go : (b : Bool) → Counted s (cond b (finished_of u kept score) (begin_of s (get_or (candidates_of s u.action) kept no_candidate) score))
       go true = inl refl
       go false = inr refl
 
-  tried-counted : (kept : ℕ) (score : Float) → Counted s u → Counted s (tried_of s u kept score)
+  tried_counted : (kept : ℕ) (score : Float) → Counted s u → Counted s (tried_of s u kept score)
   unfolding tried_of
-  tried-counted kept score h = go (ltb (u.k + 1) u.count)
+  tried_counted kept score h = go (ltb (u.k + 1) u.count)
     where
       go : (b : Bool) → Counted s (cond b (next_of u (u.k + 1) kept score) (last_of s u kept score))
       go true = h
-      go false = last-counted kept score
+      go false = last_counted kept score
 
-  pub step-counted : (x : Float) → Counted s u → Counted s (step_of s u x)
+  pub step_counted : (x : Float) → Counted s u → Counted s (step_of s u x)
   unfolding step_of
-  step-counted x h = tried-counted (noted_of u x).kept (noted_of u x).score h
+  step_counted x h = tried_counted (noted_of u x).kept (noted_of u x).score h

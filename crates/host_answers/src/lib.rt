@@ -1,4 +1,6 @@
 // Many answers to a trainer for hosts, in one call: its record is loaded once and saved once.
+#![tactic(auto)]
+
 ghost use Rattle.std.specs.Prelude.{◌≡◌};
 ghost use Rattle.host_trainer.specs.Records.{written_of, record_after};
 ghost use Rattle.host_answers.specs.Answers.{answers_in};

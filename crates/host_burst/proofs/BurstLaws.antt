@@ -25,16 +25,16 @@ kept x y n k (t ∷ ts) e = go t.holds e (kept x y n k ts)
 
 module _ (held sender list windows flags : List ℕ) where
   -- 6, 7, 8 of the record, 6, 6, 9
-  pub burst-order : number_of (burst_in held sender list windows flags) ≡ first_of (burst_order held sender list windows flags)
+  pub burst_order_lem : number_of (burst_in held sender list windows flags) ≡ first_of (burst_order held sender list windows flags)
   unfolding burst_in
-  burst-order =
+  burst_order_lem =
       numbered Refused (Size (answer_of (course_in held sender list))) number_of (λ k. refl) refl (burst_order held sender list windows flags)
 
-  pub refused-kept : {k : ℕ} → burst_in held sender list windows flags ≡ Refused k
+  pub refused_kept : {k : ℕ} → burst_in held sender list windows flags ≡ Refused k
       → (sender_left held sender list windows flags ≡ sender) × (windows_left held sender list windows flags ≡ windows)
       × (flags_left held sender list windows flags ≡ flags)
   unfolding burst_in sender_left windows_left flags_left
-  refused-kept {k} e =
+  refused_kept {k} e =
       let n = answer_of (course_in held sender list) in
       let ts = burst_order held sender list windows flags in
       (kept sender _ n k ts e, kept windows _ n k ts e, kept flags _ n k ts e)

@@ -22,20 +22,20 @@ module _ (held sender list windows flags : List ℕ) where
   module _ {a : Answered} (e : a ≡ load_of held) where
     -- ---- the record's number first, then that of the lengths
     module _ {A : Type 0} (refuse : ℕ → A) (answer : A) where
-      by-record : {b : Bool} → b ≡ eqb a.refused 0 → cond b (guarded order refuse answer) (refuse a.refused) ≡ guarded (burst_order held sender list windows flags) refuse answer
-      by-record p =
+      by_record : {b : Bool} → b ≡ eqb a.refused 0 → cond b (guarded order refuse answer) (refuse a.refused) ≡ guarded (burst_order held sender list windows flags) refuse answer
+      by_record p =
           ap (λ (b : Bool). cond b (guarded order refuse answer) (refuse a.refused)) p
           ∙ ap (λ (x : Answered). cond (eqb x.refused 0) (guarded order refuse answer) (refuse x.refused)) e
 
       unloaded : (a.refused ≡ 0 → ⊥) → refuse a.refused ≡ guarded (burst_order held sender list windows flags) refuse answer
-      unloaded n = by-record (sym (ne_eqb a.refused 0 n))
+      unloaded n = by_record (sym (ne_eqb a.refused 0 n))
 
       module _ (z : a.refused ≡ 0) {k : ℕ} (h : k ≡ first_of order) where
         unfit : (k ≡ 0 → ⊥) → refuse k ≡ guarded (burst_order held sender list windows flags) refuse answer
-        unfit n = stops refuse answer (length sender) (length list) (length windows) (length flags) h n ∙ by-record (sym (eq-eqb a.refused 0 z))
+        unfit n = stops refuse answer (length sender) (length list) (length windows) (length flags) h n ∙ by_record (sym (eq-eqb a.refused 0 z))
 
         passed : k ≡ 0 → answer ≡ guarded (burst_order held sender list windows flags) refuse answer
-        passed m = goes refuse answer (length sender) (length list) (length windows) (length flags) h m ∙ by-record (sym (eq-eqb a.refused 0 z))
+        passed m = goes refuse answer (length sender) (length list) (length windows) (length flags) h m ∙ by_record (sym (eq-eqb a.refused 0 z))
 
     -- ---- the call
     abbrev pub Answers : Saved → List ℕ → List ℕ → List ℕ → Type 0
@@ -43,14 +43,14 @@ module _ (held sender list windows flags : List ℕ) where
         (r ≡ burst_in held sender list windows flags) × (s ≡ sender_left held sender list windows flags)
         × (w ≡ windows_left held sender list windows flags) × (f ≡ flags_left held sender list windows flags)
 
-    pub record-refused : (a.refused ≡ 0 → ⊥) → Answers (Refused a.refused) sender windows flags
+    pub record_refused : (a.refused ≡ 0 → ⊥) → Answers (Refused a.refused) sender windows flags
     unfolding burst_in sender_left windows_left flags_left
-    record-refused n = (unloaded Refused _ n, unloaded (λ k. sender) _ n, unloaded (λ k. windows) _ n, unloaded (λ k. flags) _ n)
+    record_refused n = (unloaded Refused _ n, unloaded (λ k. sender) _ n, unloaded (λ k. windows) _ n, unloaded (λ k. flags) _ n)
 
     module _ (z : a.refused ≡ 0) {k : ℕ} (h : k ≡ first_of order) where
-      pub lengths-refused : (k ≡ 0 → ⊥) → Answers (Refused k) sender windows flags
+      pub lengths_refused : (k ≡ 0 → ⊥) → Answers (Refused k) sender windows flags
       unfolding burst_in sender_left windows_left flags_left
-      lengths-refused n = (unfit Refused _ z h n, unfit (λ k. sender) _ z h n, unfit (λ k. windows) _ z h n, unfit (λ k. flags) _ z h n)
+      lengths_refused n = (unfit Refused _ z h n, unfit (λ k. sender) _ z h n, unfit (λ k. windows) _ z h n, unfit (λ k. flags) _ z h n)
 
       pub given : k ≡ 0 → {r : ℕ} {s w f : List ℕ} → Given a.trainer.tree sender list windows flags r s w f → Answers (Size r) s w f
       unfolding burst_in sender_left windows_left flags_left

@@ -1,6 +1,5 @@
 -- What a burst over bytes leaves: the gathered acks are the list's, and the taken windows, the flags and the sender are written. Assumes nothing.
 use mathlib.Core.Path.{◌≡◌, refl, sym, ap, ◌∙◌}
-use mathlib.Core.Bool.{true}
 use mathlib.Core.List.{List, [], ◌∷◌, ◌++◌}
 use Prim.Native.Nat.{ℕ, suc, ◌+◌, ◌*◌, ◌/◌, ◌≤◌}
 use native.Mathlib.Omega.{arith}
@@ -17,7 +16,7 @@ use Rattle.sender.specs.declared.Reply.TheVariants.{Taken, Refused}
 use Rattle.sender.specs.declared.Sender.{Sender}
 use Rattle.sender.specs.Sender.{ack_of}
 use Rattle.sender.specs.Burst.{Course, Room, acks_in, course_of, ran_by}
-use Rattle.sender.proofs.Bursts.{first_taken, first-refused}
+use Rattle.sender.proofs.Bursts.{first_taken, first_refused}
 use Rattle.sender.proofs.BurstLaws.{as_many}
 use Rattle.host_sender.specs.Layout.{sender_bytes, sender_at}
 use Rattle.host_sender.proofs.EventWays.{written_all}
@@ -34,7 +33,7 @@ taken_few t s (x ∷ xs) = go (ack_of t s x.sent x.received x.draw) refl (λ u. 
         → length (course_of t s (x ∷ xs)).windows ≤ suc (length xs)
     go (Taken h) e ih =
         omega (arith, ap (λ (c : Course). length c.windows) (first_taken t s x xs refl e), ih h.sender)
-    go (Refused k) e ih = omega (arith, ap (λ (c : Course). length c.windows) (first-refused t s x xs refl e))
+    go (Refused k) e ih = omega (arith, ap (λ (c : Course). length c.windows) (first_refused t s x xs refl e))
 
 module _ (t : RuleTree) (bytes list out marks : List ℕ) (fit : Fit (length bytes) (length list) (length out) (length marks)) {b : Burst}
     (g : Gathered list (length list / 21) b)
@@ -48,27 +47,27 @@ module _ (t : RuleTree) (bytes list out marks : List ℕ) (fit : Fit (length byt
       abbrev course : Course
       course = course_of t (sender_at bytes) (acks_of list)
 
-      course-is : course_of t s (acks_in b) ≡ course
-      course-is = λ j. course_of t (es j) ((ap (λ (n : ℕ). take n b.acks) g.count ∙ g.acks) j)
+      course_is : course_of t s (acks_in b) ≡ course
+      course_is = λ j. course_of t (es j) ((ap (λ (n : ℕ). take n b.acks) g.count ∙ g.acks) j)
 
-      ran-is : ran ≡ ran_by course
-      ran-is = er ∙ ap ran_by course-is
+      ran_is : ran ≡ ran_by course
+      ran_is = er ∙ ap ran_by course_is
 
       counted : length course.windows ≡ ran.taken
-      counted = sym (ap (λ (x : Ran). x.taken) ran-is)
+      counted = sym (ap (λ (x : Ran). x.taken) ran_is)
 
       pub few : ran.taken ≤ length list / 21
       few = omega (arith, counted, taken_few t (sender_at bytes) (acks_of list), length_tabulate (length list / 21) (λ i. ack_at list (21 * i)))
 
-      flags-written : {f : List ℕ} → f ≡ (course_of t s (acks_in b)).flags ++ drop ran.taken marks → f ≡ sets marks 0 course.flags
-      flags-written e =
+      flags_written : {f : List ℕ} → f ≡ (course_of t s (acks_in b)).flags ++ drop ran.taken marks → f ≡ sets marks 0 course.flags
+      flags_written e =
           let n : length course.flags ≡ ran.taken = as_many t (sender_at bytes) (acks_of list) ∙ counted in
-          e ∙ ap (λ (c : Course). c.flags ++ drop ran.taken marks) course-is ∙ ap (λ (k : ℕ). course.flags ++ drop k marks) (sym n)
+          e ∙ ap (λ (c : Course). c.flags ++ drop ran.taken marks) course_is ∙ ap (λ (k : ℕ). course.flags ++ drop k marks) (sym n)
           ∙ sym (stored marks course.flags (omega (arith, few, fit.flags)) refl)
 
-      windows-taken : (old : List ℕ) {ws : List ℕ} → ws ≡ (course_of t s (acks_in b)).windows ++ drop ran.taken old → take ran.taken ws ≡ course.windows
-      windows-taken old e =
-          ap (take ran.taken) (e ∙ ap (λ (c : Course). c.windows ++ drop ran.taken old) course-is)
+      windows_taken : (old : List ℕ) {ws : List ℕ} → ws ≡ (course_of t s (acks_in b)).windows ++ drop ran.taken old → take ran.taken ws ≡ course.windows
+      windows_taken old e =
+          ap (take ran.taken) (e ∙ ap (λ (c : Course). c.windows ++ drop ran.taken old) course_is)
           ∙ take_at course.windows (drop ran.taken old) ran.taken counted
 
       pub given : (old : List ℕ) {ws z w f : List ℕ} {r : ℕ} → ws ≡ (course_of t s (acks_in b)).windows ++ drop ran.taken old
@@ -76,8 +75,8 @@ module _ (t : RuleTree) (bytes list out marks : List ℕ) (fit : Fit (length byt
           → z ≡ sets bytes 0 (sender_bytes ran.sender) → r ≡ ran.stopped * 4294967296 + ran.taken → Given t bytes list out marks r z w f
       given old ew ef eo ez ea =
           record {
-            answer = ea ∙ ap (λ (x : Ran). x.stopped * 4294967296 + x.taken) ran-is;
-            sender = written_all bytes fit.whole ran.sender ez ∙ ap (λ (x : Ran). sender_bytes x.sender) ran-is;
-            windows = eo ∙ ap (λ (l : List ℕ). sets out 0 (windows_bytes l)) (windows-taken old ew);
-            flags = flags-written ef;
+            answer = ea ∙ ap (λ (x : Ran). x.stopped * 4294967296 + x.taken) ran_is;
+            sender = written_all bytes fit.whole ran.sender ez ∙ ap (λ (x : Ran). sender_bytes x.sender) ran_is;
+            windows = eo ∙ ap (λ (l : List ℕ). sets out 0 (windows_bytes l)) (windows_taken old ew);
+            flags = flags_written ef;
           }

@@ -12,9 +12,9 @@ use Rattle.host_burst.specs.Bursts.{fits}
 use Rattle.host_burst.specs.Parts.{lengths_order, Fit}
 
 module _ (a b c d : ℕ) where
-  pub other-sender : (a ≡ 108 → ⊥) → 6 ≡ first_of (lengths_order a b c d)
+  pub other_sender : (a ≡ 108 → ⊥) → 6 ≡ first_of (lengths_order a b c d)
   unfolding first_of
-  other-sender n = rw (ne_eqb a 108 n)
+  other_sender n = rw (ne_eqb a 108 n)
 
   module _ (e : a ≡ 108) where
     pub cut : (b % 21 ≡ 0 → ⊥) → 6 ≡ first_of (lengths_order a b c d)
@@ -30,9 +30,9 @@ module _ (a b c d : ℕ) where
       unfolding first_of
       short h = rw (eq-eqb a 108 e, eq-eqb (b % 21) 0 f, ← g, h)
 
-  fit-by : (x y z : Bool) → eqb a 108 ≡ x → fits (b / 21) c d ≡ z → first_of (test x 6 ∷ test y 6 ∷ test z 9 ∷ []) ≡ 0 → Fit a b c d
+  fit_by : (x y z : Bool) → eqb a 108 ≡ x → fits (b / 21) c d ≡ z → first_of (test x 6 ∷ test y 6 ∷ test z 9 ∷ []) ≡ 0 → Fit a b c d
   unfolding first_of
-  fit-by true true true p q k =
+  fit_by true true true p q k =
       let n = b / 21 in
       let r = and_right (leb n 256) (leb (4 * n) c && leb n d) q in
       record {
@@ -41,12 +41,12 @@ module _ (a b c d : ℕ) where
         windows = leb-true (4 * n) c (and_left (leb (4 * n) c) (leb n d) r);
         flags = leb-true n d (and_right (leb (4 * n) c) (leb n d) r);
       }
-  fit-by true true false p q k = absurd (omega arith)
-  fit-by true false z p q k = absurd (omega arith)
-  fit-by false y z p q k = absurd (omega arith)
+  fit_by true true false p q k = absurd (omega arith)
+  fit_by true false z p q k = absurd (omega arith)
+  fit_by false y z p q k = absurd (omega arith)
 
   pub fit : first_of (lengths_order a b c d) ≡ 0 → Fit a b c d
-  fit = fit-by (eqb a 108) (eqb (b % 21) 0) (fits (b / 21) c d) refl refl
+  fit = fit_by (eqb a 108) (eqb (b % 21) 0) (fits (b / 21) c d) refl refl
 
 -- a call after the tests of the lengths, by their number
 module _ {A : Type 0} (refuse : ℕ → A) (answer : A) where

@@ -1,9 +1,8 @@
 -- 02, 1, for hosts: a burst of acks on a sender kept in 108 bytes, over the tree of a record's trainer.
-use Rattle.std.specs.Prelude.{Bool, ◌&&◌, List, [], ◌∷◌, ◌++◌, ℕ, zero, suc, ◌+◌, ◌*◌, ◌/◌, ◌%◌, length, eqb, leb}
+use Rattle.std.specs.Prelude.{Bool, ◌&&◌, List, [], ◌∷◌, ◌++◌, ℕ, ◌+◌, ◌*◌, ◌/◌, ◌%◌, length, eqb, leb}
 use Rattle.std.proofs.lemmas.List.Edits.{sets}
 use Rattle.refusal.specs.Numbers.{bad_length, short_buffer}
 use Rattle.refusal.specs.Guards.{Test, test, guarded}
-use Rattle.rule_tree.specs.declared.RuleTree.{RuleTree}
 use Rattle.rule_tree.specs.Lists.{tabulate}
 use Rattle.wire.specs.Bytes.{bytes_of}
 use Rattle.wire.specs.Fields.{float_at}
@@ -11,7 +10,6 @@ use Rattle.record.specs.Calls.{load_of}
 use Rattle.record.specs.declared.Saved.{Saved}
 use Rattle.record.specs.declared.Saved.TheVariants.{Size, Refused}
 use Rattle.sender.specs.declared.Ack.{Ack}
-use Rattle.sender.specs.declared.Sender.{Sender}
 use Rattle.sender.specs.Burst.{Course, course_of}
 use Rattle.host_sender.specs.Layout.{sender_bytes, sender_at}
 use Rattle.host_sender.specs.Events.{draw_at}

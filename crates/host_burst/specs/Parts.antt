@@ -1,12 +1,12 @@
 -- What the private functions of the code are held to: the tests of the lengths, and what a taken burst leaves.
-use Rattle.std.specs.Prelude.{◌≡◌, List, [], ◌∷◌, ℕ, ◌*◌, ◌/◌, ◌%◌, ◌≤◌, length, take, eqb}
+use Rattle.std.specs.Prelude.{◌≡◌, List, [], ◌∷◌, ℕ, ◌*◌, ◌/◌, ◌%◌, ◌≤◌, take, eqb}
 use Rattle.std.proofs.lemmas.List.Edits.{sets}
 use Rattle.refusal.specs.Numbers.{bad_length, short_buffer}
 use Rattle.refusal.specs.Guards.{Test, test}
 use Rattle.rule_tree.specs.declared.RuleTree.{RuleTree}
 use Rattle.rule_tree.specs.Lists.{tabulate}
 use Rattle.sender.specs.declared.Burst.{Burst}
-use Rattle.sender.specs.Burst.{Course, course_of}
+use Rattle.sender.specs.Burst.{course_of}
 use Rattle.host_sender.specs.Layout.{sender_bytes, sender_at}
 use Rattle.host_burst.specs.Bursts.{ack_at, acks_of, answer_of, fits, windows_bytes}
 

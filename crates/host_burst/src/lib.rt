@@ -1,4 +1,6 @@
 // A burst of acks for hosts: a sender kept in 108 bytes, acks in 21 bytes each, a window in four bytes and a flag in one.
+#![tactic(auto)]
+
 ghost use Rattle.std.specs.Prelude.{◌≡◌, true, ◌+◌, ◌*◌, ◌≤◌, length};
 ghost use Rattle.std.proofs.lemmas.List.Edits.{sets};
 ghost use Rattle.refusal.specs.Guards.{first_of};

@@ -1,8 +1,8 @@
 -- The ways through a step and a step back of a generator in bytes. Assumes nothing.
-use mathlib.Core.Path.{◌≡◌, refl, sym, ap, ◌∙◌}
+use mathlib.Core.Path.{◌≡◌, sym, ap, ◌∙◌}
 use mathlib.Core.Bool.{true, false}
-use mathlib.Core.List.{List, [], ◌++◌, append_assoc, append-nil}
-use Prim.Native.Nat.{ℕ, ◌+◌, ◌<◌, ◌≤◌}
+use mathlib.Core.List.{List, ◌++◌, append_assoc, append-nil}
+use Prim.Native.Nat.{ℕ, ◌<◌, ◌≤◌}
 use native.Mathlib.Omega.{arith}
 use borrow.Author.Tests.{eq-eqb, ne_eqb, le-leb, lt-leb}
 use lib.ListN.{length, length-append, drop_of_length-le}
@@ -15,7 +15,7 @@ use Rattle.wire.proofs.Bytes.{bytes_count}
 use Rattle.wire.proofs.Stores.{wrote}
 use Rattle.xoshiro.specs.declared.State.{State}
 use Rattle.xoshiro.specs.declared.Stepped.{Stepped}
-use Rattle.xoshiro.specs.Xoshiro.{zeros_of, output_of, next_of, stepped_of, back_of}
+use Rattle.xoshiro.specs.Xoshiro.{zeros_of, stepped_of, back_of}
 use Rattle.host_draws.specs.Steps.{state_at, state_bytes, step_in, step_left, output_left, back_in, back_left}
 
 -- ---- the four words
@@ -52,8 +52,8 @@ module _ (l : List ℕ) (s : State) where
   abbrev w3 : List ℕ
   w3 = bytes_of 8 s.s3
 
-  pub words-put : {a b c d : List ℕ} → length l ≡ 32 → a ≡ sets l 0 w0 → b ≡ sets a 8 w1 → c ≡ sets b 16 w2 → d ≡ sets c 24 w3 → d ≡ state_bytes s
-  words-put {a} {b} {c} e p q r t =
+  pub words_put : {a b c d : List ℕ} → length l ≡ 32 → a ≡ sets l 0 w0 → b ≡ sets a 8 w1 → c ≡ sets b 16 w2 → d ≡ sets c 24 w3 → d ≡ state_bytes s
+  words_put {a} {b} {c} e p q r t =
       let n0 = bytes_count 8 s.s0 in
       let n1 = bytes_count 8 s.s1 in
       let n2 = bytes_count 8 s.s2 in
@@ -68,21 +68,21 @@ module _ (generator out : List ℕ) where
   abbrev Stepping : Saved → List ℕ → List ℕ → Type 0
   Stepping r g o = (r ≡ step_in generator out) × ((g ≡ step_left generator out) × (o ≡ output_left generator out))
 
-  pub step-length : (length generator ≡ 32 → ⊥) → Stepping (Refused 6) generator out
+  pub step_length : (length generator ≡ 32 → ⊥) → Stepping (Refused 6) generator out
   unfolding step_in step_left output_left
-  step-length n = let a = ne_eqb (length generator) 32 n in (rw a, (rw a, rw a))
+  step_length n = let a = ne_eqb (length generator) 32 n in (rw a, (rw a, rw a))
 
   module _ (e : length generator ≡ 32) {s : State} (at : s ≡ state_at generator) where
-    pub step-zeros : zeros_of s ≡ true → Stepping (Refused 26) generator out
+    pub step_zeros : zeros_of s ≡ true → Stepping (Refused 26) generator out
     unfolding step_in step_left output_left
-    step-zeros z =
+    step_zeros z =
         let a = eq-eqb (length generator) 32 e in
         let b : zeros_of (state_at generator) ≡ true = ap zeros_of (sym at) ∙ z in
         (rw (a, b), (rw (a, b), rw (a, b)))
 
-    pub step-short : zeros_of s ≡ false → length out < 8 → Stepping (Refused 9) generator out
+    pub step_short : zeros_of s ≡ false → length out < 8 → Stepping (Refused 9) generator out
     unfolding step_in step_left output_left
-    step-short z h =
+    step_short z h =
         let a = eq-eqb (length generator) 32 e in
         let b : zeros_of (state_at generator) ≡ false = ap zeros_of (sym at) ∙ z in
         let c = lt-leb 8 (length out) h in
@@ -108,21 +108,21 @@ module _ (generator : List ℕ) where
   abbrev Backing : Saved → List ℕ → Type 0
   Backing r g = (r ≡ back_in generator) × (g ≡ back_left generator)
 
-  pub back-length : (length generator ≡ 32 → ⊥) → Backing (Refused 6) generator
+  pub back_length : (length generator ≡ 32 → ⊥) → Backing (Refused 6) generator
   unfolding back_in back_left
-  back-length n = let a = ne_eqb (length generator) 32 n in (rw a, rw a)
+  back_length n = let a = ne_eqb (length generator) 32 n in (rw a, rw a)
 
   module _ (e : length generator ≡ 32) {s : State} (at : s ≡ state_at generator) where
-    pub back-zeros : zeros_of s ≡ true → Backing (Refused 26) generator
+    pub back_zeros : zeros_of s ≡ true → Backing (Refused 26) generator
     unfolding back_in back_left
-    back-zeros z =
+    back_zeros z =
         let a = eq-eqb (length generator) 32 e in
         let b : zeros_of (state_at generator) ≡ true = ap zeros_of (sym at) ∙ z in
         (rw (a, b), rw (a, b))
 
-    pub back-taken : {t : State} {g : List ℕ} → zeros_of s ≡ false → t ≡ back_of s → g ≡ state_bytes t → Backing (Size 32) g
+    pub back_taken : {t : State} {g : List ℕ} → zeros_of s ≡ false → t ≡ back_of s → g ≡ state_bytes t → Backing (Size 32) g
     unfolding back_in back_left
-    back-taken z f p =
+    back_taken z f p =
         let a = eq-eqb (length generator) 32 e in
         let b : zeros_of (state_at generator) ≡ false = ap zeros_of (sym at) ∙ z in
         (rw (a, b), rw (a, b) (p ∙ ap state_bytes (f ∙ ap back_of at)))

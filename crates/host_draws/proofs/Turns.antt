@@ -1,6 +1,6 @@
 -- One event more of a list of events with own draws: the sender, the generator and the replies. Assumes nothing.
 use mathlib.Core.Path.{◌≡◌, refl, sym, ap, ◌∙◌}
-use mathlib.Core.Bool.{true, false}
+use mathlib.Core.Bool.{false}
 use mathlib.Core.List.{List, [], ◌∷◌, ◌++◌, append_assoc, append-nil}
 use Prim.Native.Nat.{ℕ, zero, suc, ◌+◌, ◌*◌, ◌≤◌}
 use native.Mathlib.Numerals.{add-one}
@@ -9,7 +9,6 @@ use lib.ListN.{length, take, drop, length-append}
 use lib.Seq.{sets}
 use Rattle.rule_tree.specs.declared.RuleTree.{RuleTree}
 use Rattle.wire.proofs.Stores.{wrote}
-use Rattle.sender.specs.declared.Draw.{Draw}
 use Rattle.sender.specs.declared.Event.{Event}
 use Rattle.sender.specs.declared.Event.TheVariants.{Ack, Send, Tick}
 use Rattle.sender.specs.declared.Sender.{Sender}
@@ -19,7 +18,6 @@ use Rattle.sender.specs.Sender.{replied_to, left_by}
 use Rattle.xoshiro.specs.declared.State.{State}
 use Rattle.xoshiro.specs.Xoshiro.{zeros_of}
 use Rattle.own_draws.specs.declared.Drawing.{Drawing}
-use Rattle.own_draws.specs.OwnDraws.{drawing}
 use Rattle.own_draws.specs.OwnRuns.{OwnCall, own_reply_to, own_replies, own_end, generator_end, handing, steps_to}
 use Rattle.own_draws.proofs.Same.{same_call, end_zeros}
 use Rattle.host_sender.specs.Events.{event_at, reply_bytes}
@@ -41,11 +39,11 @@ handed_steps t s g (Send at) r = refl
 handed_steps t s g Tick r = refl
 
 module _ (t : RuleTree) (s : Sender) (g : State) (z : zeros_of g ≡ false) (e : Event) where
-  reply-is : replied_to s (on t (handed_event s g e)) ≡ (own_reply_to s g (call_of t e)).reply
-  reply-is = ap (replied_to s) (handed_on t s g e) ∙ ap (λ (d : Drawing). d.reply) (sym (same_call s g (call_of t e) z))
+  reply_is : replied_to s (on t (handed_event s g e)) ≡ (own_reply_to s g (call_of t e)).reply
+  reply_is = ap (replied_to s) (handed_on t s g e) ∙ ap (λ (d : Drawing). d.reply) (sym (same_call s g (call_of t e) z))
 
-  generator-is : stepped_by s g (handed_event s g e) (replied_to s (on t (handed_event s g e))) ≡ (own_reply_to s g (call_of t e)).generator
-  generator-is =
+  generator_is : stepped_by s g (handed_event s g e) (replied_to s (on t (handed_event s g e))) ≡ (own_reply_to s g (call_of t e)).generator
+  generator_is =
       handed_steps t s g e (replied_to s (on t (handed_event s g e)))
       ∙ ap (λ (r : Reply). steps_to s g (call_of t e) r) (ap (replied_to s) (handed_on t s g e))
       ∙ ap (λ (d : Drawing). d.generator) (sym (same_call s g (call_of t e) z))
@@ -60,16 +58,16 @@ module _ (c : OwnCall) where
   end_more s g [] = refl
   end_more s g (b ∷ cs) = let d = own_reply_to s g b in end_more (left_by s d.reply) d.generator cs
 
-  generator-more : (s : Sender) (g : State) (cs : List OwnCall) → generator_end s g (cs ++ (c ∷ [])) ≡ (last s g cs).generator
+  generator_more : (s : Sender) (g : State) (cs : List OwnCall) → generator_end s g (cs ++ (c ∷ [])) ≡ (last s g cs).generator
   unfolding own_end generator_end
-  generator-more s g [] = refl
-  generator-more s g (b ∷ cs) = let d = own_reply_to s g b in generator-more (left_by s d.reply) d.generator cs
+  generator_more s g [] = refl
+  generator_more s g (b ∷ cs) = let d = own_reply_to s g b in generator_more (left_by s d.reply) d.generator cs
 
-  replies-more : (s : Sender) (g : State) (cs : List OwnCall) → own_replies s g (cs ++ (c ∷ [])) ≡ own_replies s g cs ++ ((last s g cs).reply ∷ [])
+  replies_more : (s : Sender) (g : State) (cs : List OwnCall) → own_replies s g (cs ++ (c ∷ [])) ≡ own_replies s g cs ++ ((last s g cs).reply ∷ [])
   unfolding own_replies own_end generator_end
-  replies-more s g [] = refl
-  replies-more s g (b ∷ cs) =
-      let d = own_reply_to s g b in ap (λ (rs : List Reply). d.reply ∷ rs) (replies-more (left_by s d.reply) d.generator cs)
+  replies_more s g [] = refl
+  replies_more s g (b ∷ cs) =
+      let d = own_reply_to s g b in ap (λ (rs : List Reply). d.reply ∷ rs) (replies_more (left_by s d.reply) d.generator cs)
 
 replies_length : (s : Sender) (g : State) (cs : List OwnCall) → length (own_replies s g cs) ≡ length cs
 unfolding own_replies
@@ -107,12 +105,12 @@ module _ (t : RuleTree) (s : Sender) (g : State) (list : List ℕ) where
   unfolding calls_in own_replies replies_of
   none_put out = refl
 
-  calls-suc : (n : ℕ) → calls (suc n) ≡ calls n ++ (call_of t (event_at list (22 * n)) ∷ [])
+  calls_suc : (n : ℕ) → calls (suc n) ≡ calls n ++ (call_of t (event_at list (22 * n)) ∷ [])
   unfolding calls_in
-  calls-suc n = refl
+  calls_suc n = refl
 
-  pub replies-count : (n : ℕ) → length (replies_of (own_replies s g (calls n))) ≡ 6 * n
-  replies-count n =
+  pub replies_count : (n : ℕ) → length (replies_of (own_replies s g (calls n))) ≡ 6 * n
+  replies_count n =
       let a = bytes_length (own_replies s g (calls n)) in
       let b = replies_length s g (calls n) in
       let c = calls_length t list n in
@@ -127,41 +125,41 @@ module _ (t : RuleTree) (s : Sender) (g : State) (list : List ℕ) where
       abbrev at : Drawing
       at = last call s g (calls i)
 
-      event-is : x ≡ event_at list (22 * i)
-      event-is = d ∙ event_part list (22 * i) m w
+      event_is : x ≡ event_at list (22 * i)
+      event_is = d ∙ event_part list (22 * i) m w
 
-      zeros-not : zeros_of h ≡ false
-      zeros-not = ap zeros_of q ∙ end_zeros s g (calls i) z
+      zeros_not : zeros_of h ≡ false
+      zeros_not = ap zeros_of q ∙ end_zeros s g (calls i) z
 
       called : own_reply_to u h (call_of t x) ≡ at
-      called j = own_reply_to (p j) (q j) (call_of t (event-is j))
+      called j = own_reply_to (p j) (q j) (call_of t (event_is j))
 
-      replied-is : r ≡ at.reply
-      replied-is =
-          a ∙ ap (λ (y : Event). replied_to u (on t y)) f ∙ reply-is t u h zeros-not x
+      replied_is : r ≡ at.reply
+      replied_is =
+          a ∙ ap (λ (y : Event). replied_to u (on t y)) f ∙ reply_is t u h zeros_not x
           ∙ ap (λ (y : Drawing). y.reply) called
 
       more : calls (i + 1) ≡ calls i ++ (call ∷ [])
-      more = ap calls (add-one i) ∙ calls-suc i
+      more = ap calls (add-one i) ∙ calls_suc i
 
-      pub sender-turn : {v : Sender} → v ≡ left_by u r → v ≡ own_end s g (calls (i + 1))
-      sender-turn b =
-          b ∙ (λ j. left_by (p j) (replied-is j)) ∙ sym (end_more call s g (calls i)) ∙ ap (own_end s g) (sym more)
+      pub sender_turn_lem : {v : Sender} → v ≡ left_by u r → v ≡ own_end s g (calls (i + 1))
+      sender_turn_lem b =
+          b ∙ (λ j. left_by (p j) (replied_is j)) ∙ sym (end_more call s g (calls i)) ∙ ap (own_end s g) (sym more)
 
-      pub generator-turn : {v : State} → v ≡ stepped_by u h e r → v ≡ generator_end s g (calls (i + 1))
-      generator-turn b =
+      pub generator_turn : {v : State} → v ≡ stepped_by u h e r → v ≡ generator_end s g (calls (i + 1))
+      generator_turn b =
           b ∙ ap (λ (y : Reply). stepped_by u h e y) a ∙ ap (λ (y : Event). stepped_by u h y (replied_to u (on t y))) f
-          ∙ generator-is t u h zeros-not x ∙ ap (λ (y : Drawing). y.generator) called
-          ∙ sym (generator-more call s g (calls i)) ∙ ap (generator_end s g) (sym more)
+          ∙ generator_is t u h zeros_not x ∙ ap (λ (y : Drawing). y.generator) called
+          ∙ sym (generator_more call s g (calls i)) ∙ ap (generator_end s g) (sym more)
 
-      pub replies-turn : (out : List ℕ) {o v : List ℕ} → o ≡ sets out 0 (replies_of (own_replies s g (calls i))) → v ≡ sets o (6 * i) (reply_bytes r)
+      pub replies_turn : (out : List ℕ) {o v : List ℕ} → o ≡ sets out 0 (replies_of (own_replies s g (calls i))) → v ≡ sets o (6 * i) (reply_bytes r)
           → v ≡ sets out 0 (replies_of (own_replies s g (calls (i + 1))))
-      replies-turn out {o} b c =
+      replies_turn out {o} b c =
           let rs = own_replies s g (calls i) in
           wrote out o 0 (6 * i) (replies_of rs) (reply_bytes r)
-          (c ∙ ap (λ (k : ℕ). sets o k (reply_bytes r)) (let y : 6 * i ≡ 0 + 6 * i = omega arith in y)) b (replies-count i)
-          ∙ ap (λ (y : Reply). sets out 0 (replies_of rs ++ reply_bytes y)) replied-is
-          ∙ ap (sets out 0) (sym (bytes_more rs at.reply) ∙ ap replies_of (sym (replies-more call s g (calls i)) ∙ ap (own_replies s g) (sym more)))
+          (c ∙ ap (λ (k : ℕ). sets o k (reply_bytes r)) (let y : 6 * i ≡ 0 + 6 * i = omega arith in y)) b (replies_count i)
+          ∙ ap (λ (y : Reply). sets out 0 (replies_of rs ++ reply_bytes y)) replied_is
+          ∙ ap (sets out 0) (sym (bytes_more rs at.reply) ∙ ap replies_of (sym (replies_more call s g (calls i)) ∙ ap (own_replies s g) (sym more)))
 
   pub all_done : (i n : ℕ) (out : List ℕ) {u : Sender} {h : State} {o : List ℕ} → i ≤ n → n ≤ i → u ≡ own_end s g (calls i) → h ≡ generator_end s g (calls i)
       → o ≡ sets out 0 (replies_of (own_replies s g (calls i)))

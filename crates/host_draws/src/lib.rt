@@ -1,4 +1,6 @@
 // A box's own generator for hosts, in 32 bytes: its step, its step back, and events whose acks draw from it.
+#![tactic(auto)]
+
 ghost use Rattle.std.specs.Prelude.{◌≡◌, true, false, ◌*◌, ◌≤◌, length};
 ghost use Rattle.std.proofs.lemmas.List.Edits.{sets};
 ghost use Rattle.rule_tree.specs.Grown.{grown_of};
@@ -25,7 +27,7 @@ use xoshiro::State;
 use xoshiro::inner::{back, next, zeros};
 
 // The sender and the generator that events leave.
-#[derive(Drop)]
+#[derive(Clone, Copy)]
 pub struct Left {
     pub sender: Sender,
     pub generator: State,

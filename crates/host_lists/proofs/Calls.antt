@@ -17,7 +17,7 @@ use Rattle.wire.specs.Fields.{action_at}
 use Rattle.record.specs.Calls.{load_of}
 use Rattle.record.proofs.Loading.{load_again}
 use Rattle.host_trainer.specs.Records.{settings_whole, settings_in}
-use Rattle.host_lists.specs.Lists.{list_after, candidates_in, candidates_after, asked_in_aRow, row_in, row_after, equal_in}
+use Rattle.host_lists.specs.Lists.{list_after, candidates_in, candidates_after, asked_in_a_row, row_in, row_after, equal_in}
 use Rattle.host_lists.specs.Parts.{candidates_with}
 use Rattle.host_lists.proofs.Listing.{Wrote}
 use Rattle.host_lists.proofs.Rows.{With}
@@ -41,11 +41,11 @@ module _ (x y : List ℕ) where
       → r ≡ trees_equal a.trainer.tree b.trainer.tree → r ≡ v → Size (cond v 1 0) ≡ equal_in (load_of x) (load_of y)
   equal_told a b r ea eb za zb e f = ap (λ (w : Bool). Size (cond w 1 0)) (sym f) ∙ both_is a b r za zb e ∙ rw (ea, eb)
 
-  pub equal-second : (a b : Answered) → a ≡ load_of x → b ≡ load_of y → a.refused ≡ 0 → (b.refused ≡ 0 → ⊥) → Refused b.refused ≡ equal_in (load_of x) (load_of y)
-  equal-second a b ea eb za n = second_is a b za n ∙ rw (ea, eb)
+  pub equal_second : (a b : Answered) → a ≡ load_of x → b ≡ load_of y → a.refused ≡ 0 → (b.refused ≡ 0 → ⊥) → Refused b.refused ≡ equal_in (load_of x) (load_of y)
+  equal_second a b ea eb za n = second_is a b za n ∙ rw (ea, eb)
 
-  pub equal-first : (a : Answered) → a ≡ load_of x → (a.refused ≡ 0 → ⊥) → Refused a.refused ≡ equal_in (load_of x) (load_of y)
-  equal-first a ea n = first-is a (load_of y) n ∙ ap (λ (z : Answered). equal_in z (load_of y)) ea
+  pub equal_first : (a : Answered) → a ≡ load_of x → (a.refused ≡ 0 → ⊥) → Refused a.refused ≡ equal_in (load_of x) (load_of y)
+  equal_first a ea n = first-is a (load_of y) n ∙ ap (λ (z : Answered). equal_in z (load_of y)) ea
 
 -- ---- the candidates of an action
 module _ (settings action out : List ℕ) where
@@ -60,27 +60,27 @@ module _ (settings action out : List ℕ) where
   unfolding candidates_in candidates_with
   tested w h = rw (w, h)
 
-  pub candidates-taken : {x : ℕ} {s : Settings} {r : Saved} {l : List ℕ} → length settings ≡ 137 → x ≡ get_or settings 12 0 → x ≤ 1
+  pub candidates_taken : {x : ℕ} {s : Settings} {r : Saved} {l : List ℕ} → length settings ≡ 137 → x ≡ get_or settings 12 0 → x ≤ 1
       → s ≡ settings_in settings → settings_hold s ≡ true → With s action out r l → In r l
-  candidates-taken {x} {s} {r} {l} e q h es hs p =
+  candidates_taken {x} {s} {r} {l} e q h es hs p =
       let w = subst (λ (z : Settings). With z action out r l) es p in
       let f = tested (whole e q h) (ap settings_hold (sym es) ∙ hs) in
       (w.0 ∙ f, w.1 ∙ ap (list_after (candidates_of (settings_in settings) (action_at action 0)) out) f)
 
-  pub candidates-bad : {x : ℕ} {s : Settings} → length settings ≡ 137 → x ≡ get_or settings 12 0 → x ≤ 1 → s ≡ settings_in settings
+  pub candidates_bad : {x : ℕ} {s : Settings} → length settings ≡ 137 → x ≡ get_or settings 12 0 → x ≤ 1 → s ≡ settings_in settings
       → settings_hold s ≡ false → In (Refused 2) out
   unfolding candidates_in list_after
-  candidates-bad e q h es hs =
+  candidates_bad e q h es hs =
       let f : settings_hold (settings_in settings) ≡ false = ap settings_hold (sym es) ∙ hs in
       rw (whole e q h, f) (refl, refl)
 
-  pub candidates-drill : {x : ℕ} → length settings ≡ 137 → x ≡ get_or settings 12 0 → 1 < x → In (Refused 2) out
+  pub candidates_drill : {x : ℕ} → length settings ≡ 137 → x ≡ get_or settings 12 0 → 1 < x → In (Refused 2) out
   unfolding candidates_in list_after settings_whole
-  candidates-drill {x} e q h = rw (eq-eqb (length settings) 137 e, ← q, lt-leb x 1 h) (refl, refl)
+  candidates_drill {x} e q h = rw (eq-eqb (length settings) 137 e, ← q, lt-leb x 1 h) (refl, refl)
 
-  pub candidates-length : (length settings ≡ 137 → ⊥) → In (Refused 2) out
+  pub candidates_length : (length settings ≡ 137 → ⊥) → In (Refused 2) out
   unfolding candidates_in list_after settings_whole
-  candidates-length n = rw (ne_eqb (length settings) 137 n) (refl, refl)
+  candidates_length n = rw (ne_eqb (length settings) 137 n) (refl, refl)
 
 -- ---- what the trainer of a record asks for in a row
 pub loaded : (held : List ℕ) (a : Answered) → a ≡ load_of held → a.refused ≡ 0 → accepted_of a.trainer ≡ true
@@ -89,7 +89,7 @@ loaded held a e z = (load_again held a.trainer (sym e ∙ (λ j. record { refuse
 abbrev Row : List ℕ → Answered → Saved → List ℕ → Type 0
 Row out a r l = (r ≡ row_in a out) × (l ≡ row_after a out)
 
-taken_row : (out : List ℕ) (a : Answered) {r : Saved} {l : List ℕ} → a.refused ≡ 0 → Wrote (asked_in_aRow a.trainer) out r l → Row out a r l
+taken_row : (out : List ℕ) (a : Answered) {r : Saved} {l : List ℕ} → a.refused ≡ 0 → Wrote (asked_in_a_row a.trainer) out r l → Row out a r l
 unfolding row_in
 taken_row out a z p = rw (eq-eqb a.refused 0 z) p
 
@@ -98,8 +98,8 @@ unfolding row_in list_after
 refused_row out a n = rw (ne_eqb a.refused 0 n) (refl, refl)
 
 module _ (held out : List ℕ) (a : Answered) (e : a ≡ load_of held) where
-  pub row_taken : {r : Saved} {l : List ℕ} → a.refused ≡ 0 → Wrote (asked_in_aRow a.trainer) out r l → Row out (load_of held) r l
+  pub row_taken : {r : Saved} {l : List ℕ} → a.refused ≡ 0 → Wrote (asked_in_a_row a.trainer) out r l → Row out (load_of held) r l
   row_taken {r} {l} z p = subst (λ (x : Answered). Row out x r l) e (taken_row out a z p)
 
-  pub row-refused : (a.refused ≡ 0 → ⊥) → Row out (load_of held) (Refused a.refused) out
-  row-refused n = subst (λ (x : Answered). Row out x (Refused a.refused) out) e (refused_row out a n)
+  pub row_refused : (a.refused ≡ 0 → ⊥) → Row out (load_of held) (Refused a.refused) out
+  row_refused n = subst (λ (x : Answered). Row out x (Refused a.refused) out) e (refused_row out a n)

@@ -89,10 +89,10 @@ module _ (xs ys : List Action) (out : List ℕ) where
   both : 20 * length (xs ++ ys) ≡ 20 * length xs + 20 * length ys
   both = let e = length-append xs ys in omega arith
 
-  pub list-fits : (at n : ℕ) {l m : List ℕ} → at ≡ 20 * length xs → n ≡ length ys → at + 20 * n ≤ length out
+  pub list_fits_lem : (at n : ℕ) {l m : List ℕ} → at ≡ 20 * length xs → n ≡ length ys → at + 20 * n ≤ length out
       → l ≡ sets out 0 (list_bytes xs) → m ≡ sets l at (list_bytes ys) → Wrote (xs ++ ys) out (Size (at + 20 * n)) m
   unfolding list_fits list_after
-  list-fits at n {l} {m} ea en h p q =
+  list_fits_lem at n {l} {m} ea en h p q =
       let size : at + 20 * n ≡ 20 * length (xs ++ ys) = let e = both in omega arith in
       let f : 20 * length (xs ++ ys) ≤ length out = omega arith in
       let c = list_count (xs ++ ys) in
@@ -103,9 +103,9 @@ module _ (xs ys : List Action) (out : List ℕ) where
         stored out (list_bytes (xs ++ ys)) (omega arith) (w ∙ ap (sets out 0) (sym (list_append xs ys))) ∙ ap (λ (k : ℕ). list_bytes (xs ++ ys) ++ drop k out) c,
       )
 
-  pub list-short : (at n : ℕ) → at ≡ 20 * length xs → n ≡ length ys → length out < at + 20 * n → Wrote (xs ++ ys) out (Refused 9) out
+  pub list_short : (at n : ℕ) → at ≡ 20 * length xs → n ≡ length ys → length out < at + 20 * n → Wrote (xs ++ ys) out (Refused 9) out
   unfolding list_fits list_after
-  list-short at n ea en h =
+  list_short at n ea en h =
       let e = both in
       rw (lt-leb (20 * length (xs ++ ys)) (length out) (omega arith)) (refl, refl)
 

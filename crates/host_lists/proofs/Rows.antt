@@ -21,10 +21,10 @@ use Rattle.trainer.proofs.AcceptedFacts.{scoring_ask, scoring_try, leaf_slot, ac
 use Rattle.record.specs.declared.Saved.{Saved}
 use Rattle.record.specs.declared.Saved.TheVariants.{Size, Refused}
 use Rattle.wire.specs.Fields.{action_at}
-use Rattle.host_lists.specs.Lists.{list_fits, list_after, asked_in_aRow}
+use Rattle.host_lists.specs.Lists.{list_fits, list_after, asked_in_a_row}
 use Rattle.host_lists.specs.Parts.{product_of, Few, own_part, row_of, candidates_with}
 use Rattle.host_lists.proofs.Listing.{Wrote, wrote_as, list_empty}
-use Rattle.host_lists.proofs.Products.{all-count}
+use Rattle.host_lists.proofs.Products.{all_count}
 
 -- ---- what the three axes hold
 module _ (s : Settings) (a : Action) (m : FloatSums) (i : WholeSums) (d : FloatSums)
@@ -32,20 +32,20 @@ module _ (s : Settings) (a : Action) (m : FloatSums) (i : WholeSums) (d : FloatS
   held : product_of (take m.count m.values) (take i.count i.values) (take d.count d.values) ≡ candidates_of s a
   held = rw (hm.list, hi.list, hd.list) (sym (candidates_are s a))
 
-  pub row-held : (own : Bool) (from : ℕ) (out : List ℕ) {r : Saved} {l : List ℕ}
+  pub row_held : (own : Bool) (from : ℕ) (out : List ℕ) {r : Saved} {l : List ℕ}
       → Wrote (row_of own a from (product_of (take m.count m.values) (take i.count i.values) (take d.count d.values))) out r l
       → Wrote (row_of own a from (candidates_of s a)) out r l
-  row-held own from out p = wrote_as out (ap (row_of own a from) held) p
+  row_held own from out p = wrote_as out (ap (row_of own a from) held) p
 
-  pub from-held : (from : ℕ) → from ≤ length (candidates_of s a)
+  pub from_held : (from : ℕ) → from ≤ length (candidates_of s a)
       → from ≤ length (take m.count m.values) * (length (take i.count i.values) * length (take d.count d.values))
-  from-held from h =
+  from_held from h =
       subst (λ (n : ℕ). from ≤ n)
-      (ap length (sym held) ∙ all-count (take m.count m.values) (take i.count i.values) (take d.count d.values)) h
+      (ap length (sym held) ∙ all_count (take m.count m.values) (take i.count i.values) (take d.count d.values)) h
 
-  pub few-held : length m.values ≡ 16 → length i.values ≡ 16 → length d.values ≡ 16
+  pub few_held : length m.values ≡ 16 → length i.values ≡ 16 → length d.values ≡ 16
       → Few (take m.count m.values) (take i.count i.values) (take d.count d.values)
-  few-held lm li ld =
+  few_held lm li ld =
       record {
         multipliers = omega (arith, length-take-le m.count m.values (omega (arith, hm.few)), hm.few);
         increments = omega (arith, length-take-le i.count i.values (omega (arith, hi.few)), hi.few);
@@ -57,79 +57,79 @@ module _ (s : Settings) (action out : List ℕ) where
   abbrev pub With : Saved → List ℕ → Type 0
   With r l = (r ≡ candidates_with s action out) × (l ≡ list_after (candidates_of s (action_at action 0)) out (candidates_with s action out))
 
-  fits-with : length action ≡ 20 → valid_of (action_at action 0) ≡ true → list_fits (candidates_of s (action_at action 0)) out ≡ candidates_with s action out
+  fits_with : length action ≡ 20 → valid_of (action_at action 0) ≡ true → list_fits (candidates_of s (action_at action 0)) out ≡ candidates_with s action out
   unfolding candidates_with
-  fits-with e v = rw (eq-eqb (length action) 20 e, v)
+  fits_with e v = rw (eq-eqb (length action) 20 e, v)
 
-  pub with-taken : {a : Action} {r : Saved} {l : List ℕ} → length action ≡ 20 → a ≡ action_at action 0 → valid_of a ≡ true
+  pub with_taken : {a : Action} {r : Saved} {l : List ℕ} → length action ≡ 20 → a ≡ action_at action 0 → valid_of a ≡ true
       → Wrote (row_of false a 0 (candidates_of s a)) out r l → With r l
   unfolding own_part
-  with-taken {a} e q v p =
+  with_taken {a} e q v p =
       let w = wrote_as out (ap (candidates_of s) q) p in
-      let f = fits-with e (ap valid_of (sym q) ∙ v) in
+      let f = fits_with e (ap valid_of (sym q) ∙ v) in
       (w.0 ∙ f, w.1 ∙ ap (list_after (candidates_of s (action_at action 0)) out) f)
 
-  pub with-invalid : {a : Action} → length action ≡ 20 → a ≡ action_at action 0 → valid_of a ≡ false → With (Refused 1) out
+  pub with_invalid : {a : Action} → length action ≡ 20 → a ≡ action_at action 0 → valid_of a ≡ false → With (Refused 1) out
   unfolding candidates_with list_after
-  with-invalid e q v =
+  with_invalid e q v =
       let w : valid_of (action_at action 0) ≡ false = ap valid_of (sym q) ∙ v in
       rw (eq-eqb (length action) 20 e, w) (refl, refl)
 
-  pub with-length : (length action ≡ 20 → ⊥) → With (Refused 6) out
+  pub with_length : (length action ≡ 20 → ⊥) → With (Refused 6) out
   unfolding candidates_with list_after
-  with-length n = rw (ne_eqb (length action) 20 n) (refl, refl)
+  with_length n = rw (ne_eqb (length action) 20 n) (refl, refl)
 
 -- ---- what an accepted trainer asks for
 module _ (t : Trainer) (h : accepted_of t ≡ true) where
-  pub ask-slot : t.phase ≡ 4 → t.leaf < 513
-  ask-slot e = leaf_slot t (scoring_ask t h e)
+  pub ask_slot : t.phase ≡ 4 → t.leaf < 513
+  ask_slot e = leaf_slot t (scoring_ask t h e)
 
-  pub try-slot : t.phase ≡ 5 → t.leaf < 513
-  try-slot e = leaf_slot t (scoring_try t h e)
+  pub try_slot : t.phase ≡ 5 → t.leaf < 513
+  try_slot e = leaf_slot t (scoring_try t h e)
 
   module _ {a : Action} (q : a ≡ leaf_action t) where
-    pub ask-valid : t.phase ≡ 4 → valid_of a ≡ true
-    ask-valid e = ap valid_of q ∙ action_valid t (scoring_ask t h e)
+    pub ask_valid : t.phase ≡ 4 → valid_of a ≡ true
+    ask_valid e = ap valid_of q ∙ action_valid t (scoring_ask t h e)
 
-    pub try-valid : t.phase ≡ 5 → valid_of a ≡ true
-    try-valid e = ap valid_of q ∙ action_valid t (scoring_try t h e)
+    pub try_valid : t.phase ≡ 5 → valid_of a ≡ true
+    try_valid e = ap valid_of q ∙ action_valid t (scoring_try t h e)
 
-    pub try-from : t.phase ≡ 5 → t.k ≤ length (candidates_of t.settings a)
-    try-from e =
+    pub try_from_lem : t.phase ≡ 5 → t.k ≤ length (candidates_of t.settings a)
+    try_from_lem e =
         subst (λ (x : Action). t.k ≤ length (candidates_of t.settings x)) (sym q) (let l = k_listed t (try_holds t h e) in omega arith)
 
 module _ (t : Trainer) where
-  pub asked-four : t.phase ≡ 4 → asked_in_aRow t ≡ leaf_action t ∷ candidates_of t.settings (leaf_action t)
-  unfolding asked_in_aRow
-  asked-four e = rw (eq-eqb t.phase 4 e)
+  pub asked_four : t.phase ≡ 4 → asked_in_a_row t ≡ leaf_action t ∷ candidates_of t.settings (leaf_action t)
+  unfolding asked_in_a_row
+  asked_four e = rw (eq-eqb t.phase 4 e)
 
-  pub asked-five : (t.phase ≡ 4 → ⊥) → t.phase ≡ 5 → asked_in_aRow t ≡ drop t.k (candidates_of t.settings (leaf_action t))
-  unfolding asked_in_aRow
-  asked-five n e = rw (ne_eqb t.phase 4 n, eq-eqb t.phase 5 e)
+  pub asked_five : (t.phase ≡ 4 → ⊥) → t.phase ≡ 5 → asked_in_a_row t ≡ drop t.k (candidates_of t.settings (leaf_action t))
+  unfolding asked_in_a_row
+  asked_five n e = rw (ne_eqb t.phase 4 n, eq-eqb t.phase 5 e)
 
-  pub asked-none : (t.phase ≡ 4 → ⊥) → (t.phase ≡ 5 → ⊥) → asked_in_aRow t ≡ []
-  unfolding asked_in_aRow
-  asked-none n m = rw (ne_eqb t.phase 4 n, ne_eqb t.phase 5 m)
+  pub asked_none : (t.phase ≡ 4 → ⊥) → (t.phase ≡ 5 → ⊥) → asked_in_a_row t ≡ []
+  unfolding asked_in_a_row
+  asked_none n m = rw (ne_eqb t.phase 4 n, ne_eqb t.phase 5 m)
 
   -- as the code writes them
-  asks-own : t.phase ≡ 4 → row_of true (leaf_action t) 0 (candidates_of t.settings (leaf_action t)) ≡ asked_in_aRow t
+  asks_own : t.phase ≡ 4 → row_of true (leaf_action t) 0 (candidates_of t.settings (leaf_action t)) ≡ asked_in_a_row t
   unfolding own_part
-  asks-own e = sym (asked-four e)
+  asks_own e = sym (asked_four e)
 
-  asks-on : (t.phase ≡ 4 → ⊥) → t.phase ≡ 5 → row_of false (leaf_action t) t.k (candidates_of t.settings (leaf_action t)) ≡ asked_in_aRow t
+  asks_on : (t.phase ≡ 4 → ⊥) → t.phase ≡ 5 → row_of false (leaf_action t) t.k (candidates_of t.settings (leaf_action t)) ≡ asked_in_a_row t
   unfolding own_part
-  asks-on n e = sym (asked-five n e)
+  asks_on n e = sym (asked_five n e)
 
   module _ (out : List ℕ) where
-    pub row-none : (t.phase ≡ 4 → ⊥) → (t.phase ≡ 5 → ⊥) → Wrote (asked_in_aRow t) out (Size 0) out
-    row-none n m = wrote_as out (sym (asked-none n m)) (list_empty out)
+    pub row-none : (t.phase ≡ 4 → ⊥) → (t.phase ≡ 5 → ⊥) → Wrote (asked_in_a_row t) out (Size 0) out
+    row-none n m = wrote_as out (sym (asked_none n m)) (list_empty out)
 
     module _ {a : Action} (q : a ≡ leaf_action t) where
-      as-leaf : (own : Bool) (k : ℕ) → row_of own a k (candidates_of t.settings a) ≡ row_of own (leaf_action t) k (candidates_of t.settings (leaf_action t))
-      as-leaf own k = ap (λ (x : Action). row_of own x k (candidates_of t.settings x)) q
+      as_leaf : (own : Bool) (k : ℕ) → row_of own a k (candidates_of t.settings a) ≡ row_of own (leaf_action t) k (candidates_of t.settings (leaf_action t))
+      as_leaf own k = ap (λ (x : Action). row_of own x k (candidates_of t.settings x)) q
 
-      pub row-ask : {r : Saved} {l : List ℕ} → t.phase ≡ 4 → Wrote (row_of true a 0 (candidates_of t.settings a)) out r l → Wrote (asked_in_aRow t) out r l
-      row-ask e p = wrote_as out (as-leaf true 0 ∙ asks-own e) p
+      pub row_ask : {r : Saved} {l : List ℕ} → t.phase ≡ 4 → Wrote (row_of true a 0 (candidates_of t.settings a)) out r l → Wrote (asked_in_a_row t) out r l
+      row_ask e p = wrote_as out (as_leaf true 0 ∙ asks_own e) p
 
-      pub row-try : {r : Saved} {l : List ℕ} → (t.phase ≡ 4 → ⊥) → t.phase ≡ 5 → Wrote (row_of false a t.k (candidates_of t.settings a)) out r l → Wrote (asked_in_aRow t) out r l
-      row-try n e p = wrote_as out (as-leaf false t.k ∙ asks-on n e) p
+      pub row_try : {r : Saved} {l : List ℕ} → (t.phase ≡ 4 → ⊥) → t.phase ≡ 5 → Wrote (row_of false a t.k (candidates_of t.settings a)) out r l → Wrote (asked_in_a_row t) out r l
+      row_try n e p = wrote_as out (as_leaf false t.k ∙ asks_on n e) p

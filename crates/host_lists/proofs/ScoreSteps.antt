@@ -17,15 +17,15 @@ use Rattle.trainer.specs.Phases.{taken, try_from, keeps, tried, phase5}
 use Rattle.trainer.specs.Calls.{progress_of, score_step, answer_score_of}
 use Rattle.trainer.proofs.Holds.{and_left}
 use Rattle.trainer.proofs.CandidateLaws.{candidates_few}
-use Rattle.trainer.proofs.AcceptedFacts.{asking-tunes, asking-leaf, trying-tunes, trying-leaf, try_holds, k_listed}
-use Rattle.host_lists.specs.Lists.{asked_in_aRow}
-use Rattle.host_lists.proofs.Rows.{asked-four, asked-five}
-use Rattle.host_lists.proofs.NextCandidate.{next, next-accepted, next_row, nothing_kept, kept_new, kept_still, kept_holds_lem}
+use Rattle.trainer.proofs.AcceptedFacts.{asking_tunes, asking_leaf, trying_tunes, trying_leaf, try_holds, k_listed}
+use Rattle.host_lists.specs.Lists.{asked_in_a_row}
+use Rattle.host_lists.proofs.Rows.{asked_four, asked_five}
+use Rattle.host_lists.proofs.NextCandidate.{next, next_accepted, next_row, nothing_kept, kept_new, kept_still, kept_holds_lem}
 
 -- a trainer that asks for the rest of the row
 pub record Next (t u : Trainer) : Type 0 where
   pub accepted : accepted_of u ≡ true
-  pub row : asked_in_aRow u ≡ drop 1 (asked_in_aRow t)
+  pub row : asked_in_a_row u ≡ drop 1 (asked_in_a_row t)
   pub leaf : u.leaf ≡ t.leaf
   pub progress : progress_of u ≡ progress_of t
 
@@ -41,18 +41,18 @@ four_is : (t : Trainer) (x : Float) → accepted_of t ≡ true → t.phase ≡ 4
 unfolding answer_score_of score_step try_from
 four_is t x h e n = rw (h, eq-eqb t.phase 4 e, ne_eqb (length (candidates_of t.settings (leaf_action t))) 0 n)
 
-module _ (t : Trainer) (x : Float) (h : accepted_of t ≡ true) (p : t.phase ≡ 4) (l : 1 < length (asked_in_aRow t)) where
-  four-some : 0 < length (candidates_of t.settings (leaf_action t))
-  four-some = let e = ap length (asked-four t p) in omega arith
+module _ (t : Trainer) (x : Float) (h : accepted_of t ≡ true) (p : t.phase ≡ 4) (l : 1 < length (asked_in_a_row t)) where
+  four_some : 0 < length (candidates_of t.settings (leaf_action t))
+  four_some = let e = ap length (asked_four t p) in omega arith
 
-  pub four-steps : Steps t (answer_score_of t x)
-  four-steps =
-      let b = asking-leaf t h p in
-      steps_as t (four_is t x h p (λ z. absurd (let m = four-some in omega arith))) (
+  pub four_steps : Steps t (answer_score_of t x)
+  four_steps =
+      let b = asking_leaf t h p in
+      steps_as t (four_is t x h p (λ z. absurd (let m = four_some in omega arith))) (
         refl,
         record {
-          accepted = next-accepted t x 0 none cube.zero h (asking-tunes t h p) (and_left (leaf_holds t) (untried t) b) four-some (nothing_kept x);
-          row = next_row t x 0 none cube.zero ∙ ap (drop 1) (sym (asked-four t p));
+          accepted = next_accepted t x 0 none cube.zero h (asking_tunes t h p) (and_left (leaf_holds t) (untried t) b) four_some (nothing_kept x);
+          row = next_row t x 0 none cube.zero ∙ ap (drop 1) (sym (asked_four t p));
           leaf = refl;
           progress = refl;
         },
@@ -68,41 +68,41 @@ tried_is : (t : Trainer) (kept : ℕ) (score : Float) → t.k + 1 < length (cand
 unfolding tried
 tried_is t kept score l = rw (lt-ltb (t.k + 1) (length (candidates_of t.settings (leaf_action t))) l)
 
-module _ (t : Trainer) (x : Float) (h : accepted_of t ≡ true) (n : t.phase ≡ 4 → ⊥) (p : t.phase ≡ 5) (l : 1 < length (asked_in_aRow t)) where
+module _ (t : Trainer) (x : Float) (h : accepted_of t ≡ true) (n : t.phase ≡ 4 → ⊥) (p : t.phase ≡ 5) (l : 1 < length (asked_in_a_row t)) where
   listed : t.k < length (candidates_of t.settings (leaf_action t))
   listed = k_listed t (try_holds t h p)
 
-  five-more : t.k + 1 < length (candidates_of t.settings (leaf_action t))
-  five-more =
-      let e = ap length (asked-five t n p) ∙ length-drop t.k (candidates_of t.settings (leaf_action t)) in
+  five_more : t.k + 1 < length (candidates_of t.settings (leaf_action t))
+  five_more =
+      let e = ap length (asked_five t n p) ∙ length-drop t.k (candidates_of t.settings (leaf_action t)) in
       omega (arith, listed)
 
-  tried-steps : (kept : ℕ) (score : Float) → kept_in t.best (t.k + 1) kept score ≡ true → Steps t (taken (tried t kept score))
-  tried-steps kept score q =
-      steps_as t (ap taken (tried_is t kept score five-more)) (
+  tried_steps : (kept : ℕ) (score : Float) → kept_in t.best (t.k + 1) kept score ≡ true → Steps t (taken (tried t kept score))
+  tried_steps kept score q =
+      steps_as t (ap taken (tried_is t kept score five_more)) (
         refl,
         record {
-          accepted = next-accepted t t.best (t.k + 1) kept score h (trying-tunes t h p)
-              (and_left (leaf_holds t) (try_holds_of t) (trying-leaf t h p)) five-more q;
+          accepted = next_accepted t t.best (t.k + 1) kept score h (trying_tunes t h p)
+              (and_left (leaf_holds t) (try_holds_of t) (trying_leaf t h p)) five_more q;
           row = next_row t t.best (t.k + 1) kept score ∙ sym (drop-drop 1 t.k (candidates_of t.settings (leaf_action t)))
-              ∙ ap (drop 1) (sym (asked-five t n p));
+              ∙ ap (drop 1) (sym (asked_five t n p));
           leaf = refl;
           progress = refl;
         },
       )
 
-  phase5-steps : Steps t (taken (phase5 t x))
+  phase5_steps : Steps t (taken (phase5 t x))
   unfolding phase5
-  phase5-steps = go (keeps t x) refl
+  phase5_steps = go (keeps t x) refl
     where
       go : (b : Bool) → keeps t x ≡ b → Steps t (taken (cond b (tried t t.k x) (tried t t.kept t.kept_score)))
       go true e =
-          tried-steps t.k x
+          tried_steps t.k x
           (kept_new t.best t.k x (omega (arith, listed, candidates_few t.settings (leaf_action t)))
           (and_left (lt t.best x) (eqb t.kept none || le t.kept_score x) e))
       go false e =
-          tried-steps t.kept t.kept_score
+          tried_steps t.kept t.kept_score
           (kept_still t.best t.k t.kept t.kept_score (kept_holds_lem t (try_holds t h p)))
 
-  pub five-steps : Steps t (answer_score_of t x)
-  five-steps = steps_as t (five_is t x h n p) phase5-steps
+  pub five_steps : Steps t (answer_score_of t x)
+  five_steps = steps_as t (five_is t x h n p) phase5_steps

@@ -43,17 +43,17 @@ abbrev pub candidates_after : List ℕ → List ℕ → List ℕ → List ℕ
 candidates_after settings action out = list_after (candidates_for settings action) out (candidates_in settings action out)
 
 -- what is asked for in a row, whatever the scores: in phase 4 the leaf's own action and its candidates, in phase 5 the candidates from k on, else nothing
-unfoldable pub asked_in_aRow : Trainer → List Action
-asked_in_aRow t =
+unfoldable pub asked_in_a_row : Trainer → List Action
+asked_in_a_row t =
     cond (eqb t.phase 4) (leaf_action t ∷ candidates_of t.settings (leaf_action t))
     (cond (eqb t.phase 5) (drop t.k (candidates_of t.settings (leaf_action t))) [])
 
 -- 6, 7, 8 of the record, then 9
 unfoldable pub row_in : Answered → List ℕ → Saved
-row_in a out = cond (eqb a.refused 0) (list_fits (asked_in_aRow a.trainer) out) (Refused a.refused)
+row_in a out = cond (eqb a.refused 0) (list_fits (asked_in_a_row a.trainer) out) (Refused a.refused)
 
 abbrev pub row_after : Answered → List ℕ → List ℕ
-row_after a out = list_after (asked_in_aRow a.trainer) out (row_in a out)
+row_after a out = list_after (asked_in_a_row a.trainer) out (row_in a out)
 
 -- 6, 7, 8 of the first record, then of the second
 unfoldable pub equal_in : Answered → Answered → Saved

@@ -1,4 +1,6 @@
 // Lists of actions for hosts, over the bytes that they hold: an action's candidates, what a trainer asks for in a row, and whether two trees are equal.
+#![tactic(auto)]
+
 ghost use Rattle.std.specs.Prelude.{◌≡◌};
 ghost use Rattle.record.specs.Calls.{load_of};
 ghost use Rattle.host_lists.specs.Lists.{candidates_in, candidates_after, row_in, row_after, equal_in};

@@ -2,9 +2,9 @@
 -- `lookup_tested` are the number of cubes that the lookup tested. Assumes nothing.
 use mathlib.Core.Path.{◌≡◌, refl, sym, ap, subst, ◌∙◌}
 use mathlib.Core.Bool.{Bool, true, false, cond}
-use mathlib.Core.List.{List, [], ◌∷◌, ◌++◌, append-nil}
+use mathlib.Core.List.{List, [], ◌∷◌, append-nil}
 use mathlib.Core.Logic.{⊎_elim}
-use Prim.Native.Nat.{ℕ, zero, suc, ◌+◌, ◌*◌, ◌/◌, ◌%◌, ◌^◌, ◌<◌, ◌≤◌}
+use Prim.Native.Nat.{ℕ, zero, suc, ◌+◌, ◌*◌, ◌/◌, ◌%◌, ◌<◌, ◌≤◌}
 use native.Mathlib.Omega.{arith}
 use borrow.Author.Tests.{leb-true}
 use lib.Dec.{leb}
@@ -16,10 +16,10 @@ use Rattle.rule_tree.specs.Nodes.{node_count}
 use Rattle.rule_tree.specs.Grown.{grown_of}
 use Rattle.rule_tree.specs.Calls.{opened_of}
 use Rattle.rule_tree.proofs.Plain.{PointFits}
-use Rattle.rule_tree.proofs.Lists.{length_tabulate, get_d_tabulate}
-use Rattle.rule_tree.proofs.Links.{grown-splits}
+use Rattle.rule_tree.proofs.Lists.{get_d_tabulate}
+use Rattle.rule_tree.proofs.Links.{grown_splits}
 use Rattle.rule_tree.proofs.Owners.{same_or_not}
-use Rattle.rule_tree_laws.proofs.Opened.{opened-few}
+use Rattle.rule_tree_laws.proofs.Opened.{opened_few}
 use Rattle.wire.specs.Bytes.{bytes_of, shorts_bytes, number_at}
 use Rattle.wire.proofs.Bytes.{bytes_count, number_none, number_more, number_stands}
 use Rattle.wire.proofs.Stores.{sets_append}
@@ -72,8 +72,8 @@ module _ (l : List ℕ) (k x : ℕ) (few : x < 65536) (inside : k < length l / 2
       let b = kept (2 * j + 1) (λ e. omega (arith, e)) (λ e. d (omega (arith, e))) in
       list_at stored j (omega arith) ∙ (λ i. a i * 256 + b i) ∙ sym (list_at l j h)
 
-  list-stored : list_in stored ≡ set (list_in l) k x
-  list-stored =
+  list_stored : list_in stored ≡ set (list_in l) k x
+  list_stored =
       let n = as_long in
       let a = places stored in
       let b = places l in
@@ -88,7 +88,7 @@ module _ (l : List ℕ) (k x : ℕ) (few : x < 65536) (inside : k < length l / 2
 
   pub list_put : list_in (sets l (2 * k) (bytes_of 2 x)) ≡ set (list_in l) k x
   unfolding bytes_of
-  list_put = list-stored
+  list_put = list_stored
 
 -- ---- numbers one after the other
 list_sets : (ls l : List ℕ) (k : ℕ) → ((i : ℕ) → get_or ls i 0 < 65536) → k + length ls ≤ length l / 2
@@ -118,7 +118,7 @@ passing_below holds (suc n) i k = go (holds i) (passing holds (suc i) n) (passin
 leaves_few : (t : RuleTree) (r : Ranges) → grown_of t ≡ true → (i : ℕ) → get_or (leaves_within t r) i 0 < 65536
 leaves_few t r g i =
     let b = passing_below (reached_leaf t r) (node_count t.splits) 0 i in
-    let s = grown-splits t g in
+    let s = grown_splits t g in
     omega arith
 
 -- ---- the call
@@ -145,5 +145,5 @@ pub tested_read : (t : RuleTree) → grown_of t ≡ true → length t.nodes ≡ 
 tested_read t g n f p =
     let x = (opened_of t p).found in
     let k = (opened_of t p).tested in
-    let few = opened-few t g n f p in
+    let few = opened_few t g n f p in
     number_stands (row_of x k) 21 2 k [] (omega arith) (drop_at (found_bytes x) (bytes_of 2 k) 21 (found_count x) ∙ sym (append-nil (bytes_of 2 k)))

@@ -1,3 +1,4 @@
 pub mod Within
 pub mod Laws
 pub mod Tested
+pub mod Seeking

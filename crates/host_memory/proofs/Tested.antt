@@ -25,10 +25,10 @@ use Rattle.wire.specs.Bytes.{bytes_of}
 use Rattle.wire.specs.Fields.{point_at}
 use Rattle.wire.proofs.Bytes.{bytes_count}
 use Rattle.wire.proofs.Stores.{wrote}
-use Rattle.host_trainer.specs.declared.inner.lookups.Spot.{Spot}
 use Rattle.host_trainer.specs.Lookups.{found_bytes}
-use Rattle.host_trainer.specs.Parts.{spot_of}
 use Rattle.host_trainer.proofs.LookupWays.{part_point, found_count, loaded_grown}
+use Rattle.host_memory.specs.declared.Sought.{Sought}
+use Rattle.host_memory.specs.Parts.{sought_of}
 use Rattle.host_memory.specs.Tested as tested
 use Rattle.host_memory.specs.Tested.{row_of, rows_bytes, rows_in, rows_after, tested_after}
 
@@ -41,34 +41,34 @@ row_count x n = let a = found_count x in let b = bytes_count 2 n in length-appen
 
 -- what the links that were gathered give of a point is what the tree's lookup tests
 module _ (t : RuleTree) (p : Point) where
-  tested-by : (b : Bool) → contains_of (root_of t.ends) p ≡ b → (spot_of (children_of t.nodes) (root_of t.ends) p).tested ≡ tested_in t p
-  unfolding spot_of tested_in
-  tested-by true v = rw v
-  tested-by false v = rw v
+  tested_by : (b : Bool) → contains_of (root_of t.ends) p ≡ b → (sought_of (children_of t.nodes) (root_of t.ends) p).tested ≡ tested_in t p
+  unfolding sought_of tested_in
+  tested_by true v = rw v
+  tested_by false v = rw v
 
-  pub spot-tested : {cs : List ℕ} {root : Cube} {x : Spot} → cs ≡ children_of t.nodes → root ≡ root_of t.ends → x ≡ spot_of cs root p
+  pub sought_tested : {cs : List ℕ} {root : Cube} {x : Sought} → cs ≡ children_of t.nodes → root ≡ root_of t.ends → x ≡ sought_of cs root p
       → x.tested ≡ (opened_in t p).tested
   unfolding opened_in
-  spot-tested l z e = ap (λ (y : Spot). y.tested) (e ∙ (λ j. spot_of (l j) (z j) p)) ∙ tested-by (contains_of (root_of t.ends) p) refl
+  sought_tested l z e = ap (λ (y : Sought). y.tested) (e ∙ (λ j. sought_of (l j) (z j) p)) ∙ tested_by (contains_of (root_of t.ends) p) refl
 
-  pub found-opened : {x : Looked} → x ≡ found_in t p → x ≡ (opened_in t p).found
+  pub found_opened : {x : Looked} → x ≡ found_in t p → x ≡ (opened_in t p).found
   unfolding opened_in
-  found-opened e = e
+  found_opened e = e
 
 -- ---- the rows, one by one
 module _ (f : Point → Lookup) (points : List ℕ) where
   abbrev row : ℕ → List ℕ
   row i = let l = f (point_at points (24 * i)) in row_of l.found l.tested
 
-  rows-suc : (i : ℕ) → rows_bytes f points (suc i) ≡ rows_bytes f points i ++ row i
+  rows_suc : (i : ℕ) → rows_bytes f points (suc i) ≡ rows_bytes f points i ++ row i
   unfolding rows_bytes
-  rows-suc i = refl
+  rows_suc i = refl
 
-  rows-count : (n : ℕ) → length (rows_bytes f points n) ≡ 23 * n
+  rows_count : (n : ℕ) → length (rows_bytes f points n) ≡ 23 * n
   unfolding rows_bytes
-  rows-count zero = refl
-  rows-count (suc n) =
-      let h = rows-count n in
+  rows_count zero = refl
+  rows_count (suc n) =
+      let h = rows_count n in
       let d = row_count (f (point_at points (24 * n))).found (f (point_at points (24 * n))).tested in
       length-append (rows_bytes f points n) (row n) ∙ omega arith
 
@@ -76,19 +76,19 @@ module _ (f : Point → Lookup) (points : List ℕ) where
   unfolding rows_bytes
   rows_none l = refl
 
-  pub rows-turn : (l : List ℕ) (i m : ℕ) {l1 l2 : List ℕ} {p : Point} {x : Looked} {n : ℕ} → m ≡ 24 → l1 ≡ sets l 0 (rows_bytes f points i)
+  pub rows_turn : (l : List ℕ) (i m : ℕ) {l1 l2 : List ℕ} {p : Point} {x : Looked} {n : ℕ} → m ≡ 24 → l1 ≡ sets l 0 (rows_bytes f points i)
       → p ≡ point_at (take m (drop (24 * i) points)) 0 → x ≡ (f p).found → n ≡ (f p).tested → l2 ≡ sets l1 (23 * i) (row_of x n)
       → l2 ≡ sets l 0 (rows_bytes f points (i + 1))
-  rows-turn l i m {l1} {p = p} {x} {n} em e ep ex en q =
+  rows_turn l i m {l1} {p = p} {x} {n} em e ep ex en q =
       let at : p ≡ point_at points (24 * i) = ep ∙ ap (λ (k : ℕ). point_at (take k (drop (24 * i) points)) 0) em ∙ part_point points (24 * i) in
       let same : row_of x n ≡ row i = (λ j. row_of (ex j) (en j)) ∙ ap (λ (y : Point). row_of (f y).found (f y).tested) at in
       wrote l l1 0 (23 * i) (rows_bytes f points i) (row i)
       (q ∙ ap (λ (k : ℕ). sets l1 k (row_of x n)) (let z : 23 * i ≡ 0 + 23 * i = omega arith in z) ∙ ap (sets l1 (0 + 23 * i)) same)
-      e (rows-count i)
-      ∙ ap (sets l 0) (sym (ap (rows_bytes f points) (add-one i) ∙ rows-suc i))
+      e (rows_count i)
+      ∙ ap (sets l 0) (sym (ap (rows_bytes f points) (add-one i) ∙ rows_suc i))
 
-  pub rows-done : (l : List ℕ) (i n : ℕ) {m : List ℕ} → i ≤ n → n ≤ i → m ≡ sets l 0 (rows_bytes f points i) → m ≡ sets l 0 (rows_bytes f points n)
-  rows-done l i n a b e = e ∙ ap (λ (k : ℕ). sets l 0 (rows_bytes f points k)) (let q : i ≡ n = omega arith in q)
+  pub rows_done : (l : List ℕ) (i n : ℕ) {m : List ℕ} → i ≤ n → n ≤ i → m ≡ sets l 0 (rows_bytes f points i) → m ≡ sets l 0 (rows_bytes f points n)
+  rows_done l i n a b e = e ∙ ap (λ (k : ℕ). sets l 0 (rows_bytes f points k)) (let q : i ≡ n = omega arith in q)
 
   -- ---- over a tree
   module _ (out : List ℕ) where
@@ -123,15 +123,15 @@ module _ (held points out : List ℕ) (a : Answered) (loaded : a ≡ load_of hel
   abbrev Tested : Saved → List ℕ → Type 0
   Tested r o = (r ≡ tested.tested_in held points out) × (o ≡ tested_after held points out)
 
-  pub record-refused : (a.refused ≡ 0 → ⊥) → Tested (Refused a.refused) out
+  pub record_refused : (a.refused ≡ 0 → ⊥) → Tested (Refused a.refused) out
   unfolding tested.tested_in tested_after
-  record-refused n =
+  record_refused n =
       let f = ne_eqb (load_of held).refused 0 (λ z. n (ap (λ (y : Answered). y.refused) loaded ∙ z)) in
       (rw f (ap (λ (y : Answered). Refused y.refused) loaded), rw f)
 
-  pub tested-taken : {r : Saved} {o : List ℕ} → a.refused ≡ 0 → Rows (opened_in a.trainer.tree) points out r o → Tested r o
+  pub tested_taken : {r : Saved} {o : List ℕ} → a.refused ≡ 0 → Rows (opened_in a.trainer.tree) points out r o → Tested r o
   unfolding tested.tested_in tested_after
-  tested-taken e p =
+  tested_taken e p =
       let f = eq-eqb (load_of held).refused 0 (ap (λ (y : Answered). y.refused) (sym loaded) ∙ e) in
       let g = loaded_grown held a loaded e in (
         rw f p.0,

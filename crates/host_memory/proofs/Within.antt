@@ -88,23 +88,23 @@ module _ (held ranges out : List ℕ) (a : Answered) (loaded : a ≡ load_of hel
   number : {k : ℕ} → a.refused ≡ k → (load_of held).refused ≡ k
   number e = ap (λ (z : Answered). z.refused) (sym loaded) ∙ e
 
-  pub record-refused : (a.refused ≡ 0 → ⊥) → Within (Refused a.refused) out
+  pub record_refused : (a.refused ≡ 0 → ⊥) → Within (Refused a.refused) out
   unfolding within_in within_after
-  record-refused n =
+  record_refused n =
       let f = ne_eqb (load_of held).refused 0 (λ z. n (ap (λ (y : Answered). y.refused) loaded ∙ z)) in
       (rw f (ap (λ (y : Answered). Refused y.refused) loaded), rw f)
 
-  pub length-refused : a.refused ≡ 0 → (length ranges ≡ 48 → ⊥) → Within (Refused 6) out
+  pub length_refused : a.refused ≡ 0 → (length ranges ≡ 48 → ⊥) → Within (Refused 6) out
   unfolding within_in within_after
-  length-refused e n =
+  length_refused e n =
       let f = eq-eqb (load_of held).refused 0 (number e) in
       let h = ne_eqb (length ranges) 48 n in
       (rw (f, h), rw (f, h))
 
-  pub within-taken : {r : Ranges} {x : Saved} {o : List ℕ} → a.refused ≡ 0 → length ranges ≡ 48 → r ≡ ranges_in ranges
+  pub within_taken : {r : Ranges} {x : Saved} {o : List ℕ} → a.refused ≡ 0 → length ranges ≡ 48 → r ≡ ranges_in ranges
       → (x ≡ listed_in a.trainer.tree r out) × (o ≡ listed_after a.trainer.tree r out) → Within x o
   unfolding within_in within_after
-  within-taken e h q p =
+  within_taken e h q p =
       let f = eq-eqb (load_of held).refused 0 (number e) in
       let s = eq-eqb (length ranges) 48 h in (
         rw (f, s) (p.0 ∙ (λ j. listed_in (loaded j).trainer.tree (q j) out)),

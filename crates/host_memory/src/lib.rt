@@ -1,19 +1,24 @@
 // What a record's tree makes of a sender's memory, for hosts: the leaves that memory known only within ranges could reach, and lookups with the number of
 // cubes tested.
+#![tactic(auto)]
+
 ghost use Rattle.std.specs.Prelude.{◌≡◌, true, ◌+◌, ◌*◌, ◌≤◌, length};
 ghost use Rattle.std.proofs.lemmas.List.Edits.{sets};
 ghost use Rattle.wire.specs.Bytes.{shorts_bytes};
 ghost use Rattle.rule_tree.specs.Grown.{grown_of};
 ghost use Rattle.rule_tree.specs.Calls.{opened_in};
+ghost use Rattle.host_trainer.specs.Parts.{Ready};
 ghost use Rattle.host_memory.specs.Within.{range_at, ranges_in, listed_in, listed_after, within_in, within_after};
 ghost use Rattle.host_memory.specs.Tested.{row_of, rows_bytes, rows_in, rows_after, tested_in, tested_after};
+ghost use Rattle.host_memory.specs.Parts.{sought_of};
 
 use host_trainer::inner::lookups;
 use ranges::inner::found_in;
 use ranges::{Range, Ranges};
 use record::Saved;
 use remy::cube::Cube;
-use rule_tree::inner::links;
+use remy::point::Point;
+use rule_tree::inner::{links, walk};
 use rule_tree::{Looked, RuleTree};
 use wire::inner::{read, write};
 
@@ -86,6 +91,34 @@ pub fn leaves_within(held: &[u8], ranges: &[u8], out: &mut [u8]) -> Saved
     Saved::Refused(a.refused)
 }
 
+// Whether a point lies in the root box, the leaf that it reaches there, and how many cubes a search in order tests for it.
+#[derive(Clone, Copy)]
+struct Sought {
+    inside: bool,
+    node: u16,
+    tested: u32,
+}
+
+// The leaf that p reaches by a tree's links; node 0, and the root's cube alone, for a point outside the root.
+fn seek(children: &[u16; 513], root: Cube, p: Point) -> Sought
+    requires { Ready children.now root }
+    ensures { result ≡ sought_of children.now root p }
+{
+    if root.contains(p) {
+        let reached = walk::walk(children, root, p);
+        return Sought {
+            inside: true,
+            node: reached.node,
+            tested: reached.tested,
+        };
+    }
+    Sought {
+        inside: false,
+        node: 0,
+        tested: 1,
+    }
+}
+
 // What a point finds, and the number of cubes tested in two bytes.
 fn put_row(out: &mut [u8], at: usize, found: Looked, tested: u32)
     requires { at + 23 ≤ length out.old }
@@ -108,12 +141,12 @@ fn put_rows(out: &mut [u8], tree: RuleTree, points: &[u8], n: usize)
         let from = 24 * i;
         let to = from + 24;
         let p = lookups::point_of(&points[from..to]);
-        let spot = lookups::seek(&children, root, p);
-        let node = spot.node as usize;
+        let sought = seek(&children, root, p);
+        let node = sought.node as usize;
         let x = tree.nodes[node];
         let a = x.action();
-        let found = lookups::found_at(spot.inside, a);
-        put_row(out, 23 * i, found, spot.tested);
+        let found = lookups::found_at(sought.inside, a);
+        put_row(out, 23 * i, found, sought.tested);
         i += 1;
     }
 }

@@ -14,33 +14,33 @@ use Rattle.trainer.specs.declared.Answered.{Answered}
 use Rattle.record.specs.declared.Saved.{Saved}
 use Rattle.record.specs.declared.Saved.TheVariants as saved
 use Rattle.record.specs.Calls.{load_of}
-use Rattle.record.proofs.Loading.{load_again, accepted-grown}
+use Rattle.record.proofs.Loading.{load_again, accepted_grown}
 use Rattle.record.proofs.CallWays.{stored}
 use Rattle.sender.specs.declared.Sender.{Sender}
 use Rattle.host_sender.specs.Layout.{sender_bytes, sender_at}
 use Rattle.host_sender.specs.Events.{sender_after, replies_bytes, event_count, events_in, sender_left, replies_left}
 use Rattle.host_sender.specs.Parts.{events_fit}
 use Rattle.host_sender.proofs.Writing.{sender_count}
-use Rattle.host_sender.proofs.Running.{replies-count}
+use Rattle.host_sender.proofs.Running.{replies_count}
 
 -- ---- the lengths of events
 module _ (a b c : ℕ) where
-  pub fit-sender : (a ≡ 108 → ⊥) → saved.Refused 6 ≡ events_fit a b c
+  pub fit_sender : (a ≡ 108 → ⊥) → saved.Refused 6 ≡ events_fit a b c
   unfolding events_fit
-  fit-sender n = rw (ne_eqb a 108 n)
+  fit_sender n = rw (ne_eqb a 108 n)
 
   module _ (e : a ≡ 108) where
     pub fit_cut : (b % 22 ≡ 0 → ⊥) → saved.Refused 6 ≡ events_fit a b c
     unfolding events_fit
     fit_cut n = rw (eq-eqb a 108 e, ne_eqb (b % 22) 0 n)
 
-    pub fit-whole : b % 22 ≡ 0 → 6 * (b / 22) ≤ c → saved.Size (6 * (b / 22)) ≡ events_fit a b c
+    pub fit_whole : b % 22 ≡ 0 → 6 * (b / 22) ≤ c → saved.Size (6 * (b / 22)) ≡ events_fit a b c
     unfolding events_fit
-    fit-whole f l = rw (eq-eqb a 108 e, eq-eqb (b % 22) 0 f, le-leb (6 * (b / 22)) c l)
+    fit_whole f l = rw (eq-eqb a 108 e, eq-eqb (b % 22) 0 f, le-leb (6 * (b / 22)) c l)
 
-    pub fit-short : b % 22 ≡ 0 → c < 6 * (b / 22) → saved.Refused 9 ≡ events_fit a b c
+    pub fit_short : b % 22 ≡ 0 → c < 6 * (b / 22) → saved.Refused 9 ≡ events_fit a b c
     unfolding events_fit
-    fit-short f l = rw (eq-eqb a 108 e, eq-eqb (b % 22) 0 f, lt-leb (6 * (b / 22)) c l)
+    fit_short f l = rw (eq-eqb a 108 e, eq-eqb (b % 22) 0 f, lt-leb (6 * (b / 22)) c l)
 
 -- what a size tells of the lengths
 pub record Fit (a b c n : ℕ) : Type 0 where
@@ -77,16 +77,16 @@ abbrev Left : RuleTree → List ℕ → List ℕ → List ℕ → Saved → Save
 Left t sender list out x r s o = (r ≡ x) × (s ≡ sender_left t sender list x) × (o ≡ replies_left t sender list out x)
 
 module _ (t : RuleTree) (sender list out : List ℕ) {x : Saved} where
-  pub left-refused : {r : Saved} (k : ℕ) → r ≡ x → r ≡ saved.Refused k → Left t sender list out x r sender out
+  pub left_refused : {r : Saved} (k : ℕ) → r ≡ x → r ≡ saved.Refused k → Left t sender list out x r sender out
   unfolding sender_left replies_left
-  left-refused k p e = let q : x ≡ saved.Refused k = sym p ∙ e in (p, rw q, rw q)
+  left_refused k p e = let q : x ≡ saved.Refused k = sym p ∙ e in (p, rw q, rw q)
 
   module _ (n : ℕ) (q : x ≡ saved.Size n) (fit : Fit (length sender) (length list) (length out) n) where
-    pub left-taken : {z u : Sender} {s o : List ℕ} → z ≡ sender_at sender → u ≡ sender_after t z list (event_count list) → s ≡ sets sender 0 (sender_bytes u)
+    pub left_taken : {z u : Sender} {s o : List ℕ} → z ≡ sender_at sender → u ≡ sender_after t z list (event_count list) → s ≡ sets sender 0 (sender_bytes u)
         → o ≡ sets out 0 (replies_bytes t z list (event_count list)) → Left t sender list out x (saved.Size n) s o
     unfolding sender_left replies_left
-    left-taken {z} {u} a e g h =
-        let c = replies-count t z list (event_count list) in
+    left_taken {z} {u} a e g h =
+        let c = replies_count t z list (event_count list) in
         let m = fit.room in
         let k = fit.size in (
           sym q,
@@ -100,24 +100,24 @@ module _ (t : RuleTree) (sender list out : List ℕ) {x : Saved} where
 -- ---- events
 -- a loaded trainer's tree is grown
 pub loaded_grown : (held : List ℕ) {a : Answered} → a ≡ load_of held → a.refused ≡ 0 → grown_of a.trainer.tree ≡ true
-loaded_grown held {a} e f = accepted-grown a.trainer (load_again held a.trainer (sym e ∙ (λ j. record { refused = f j; trainer = a.trainer }))).accepted
+loaded_grown held {a} e f = accepted_grown a.trainer (load_again held a.trainer (sym e ∙ (λ j. record { refused = f j; trainer = a.trainer }))).accepted
 
 module _ (held sender list out : List ℕ) {a : Answered} (e : a ≡ load_of held) where
   abbrev EventsAre : Saved → List ℕ → List ℕ → Type 0
   EventsAre r s o = Left (load_of held).trainer.tree sender list out (events_in (load_of held) sender list out) r s o
 
-  pub events-refused : (a.refused ≡ 0 → ⊥) → EventsAre (saved.Refused a.refused) sender out
+  pub events_refused : (a.refused ≡ 0 → ⊥) → EventsAre (saved.Refused a.refused) sender out
   unfolding events_in
-  events-refused n =
-      left-refused (load_of held).trainer.tree sender list out a.refused
+  events_refused n =
+      left_refused (load_of held).trainer.tree sender list out a.refused
       (rw (← e, ne_eqb a.refused 0 n)) refl
 
-  events-fit : a.refused ≡ 0 → events_fit (length sender) (length list) (length out) ≡ events_in (load_of held) sender list out
+  events_fit_lem : a.refused ≡ 0 → events_fit (length sender) (length list) (length out) ≡ events_in (load_of held) sender list out
   unfolding events_in events_fit
-  events-fit f = rw (← e, eq-eqb a.refused 0 f)
+  events_fit_lem f = rw (← e, eq-eqb a.refused 0 f)
 
-  pub events-taken : a.refused ≡ 0 → {r : Saved} {s o : List ℕ}
+  pub events_taken : a.refused ≡ 0 → {r : Saved} {s o : List ℕ}
       → Left a.trainer.tree sender list out (events_fit (length sender) (length list) (length out)) r s o → EventsAre r s o
-  events-taken f {r} {s} {o} h =
-      subst (λ (z : Saved). Left (load_of held).trainer.tree sender list out z r s o) (events-fit f)
+  events_taken f {r} {s} {o} h =
+      subst (λ (z : Saved). Left (load_of held).trainer.tree sender list out z r s o) (events_fit_lem f)
       (subst (λ (z : Answered). Left z.trainer.tree sender list out (events_fit (length sender) (length list) (length out)) r s o) e h)

@@ -47,9 +47,9 @@ abbrev NewIs : List ℕ → List ℕ → Saved → List ℕ → Type 0
 NewIs mode out r o = (r ≡ new_in mode out) × (o ≡ new_after mode out (new_in mode out))
 
 module _ (mode out : List ℕ) {b : Bool} (e : b ≡ mode_whole mode) where
-  pub new-cut : b ≡ false → NewIs mode out (saved.Refused 2) out
+  pub new_cut : b ≡ false → NewIs mode out (saved.Refused 2) out
   unfolding new_in new_after
-  new-cut f = (rw (← e, f), rw (← e, f))
+  new_cut f = (rw (← e, f), rw (← e, f))
 
   module _ (f : b ≡ true) {m : RepeatMode} {x : Made} (g : m ≡ mode_at mode 0) (h : x ≡ new_of m) where
     new_is : new_of (mode_at mode 0) ≡ x
@@ -59,9 +59,9 @@ module _ (mode out : List ℕ) {b : Bool} (e : b ≡ mode_whole mode) where
     unfolding new_in
     in_is = rw (← e, f, new_is)
 
-    pub new-refused : (k : ℕ) → x ≡ made.Refused k → NewIs mode out (saved.Refused k) out
+    pub new_refused : (k : ℕ) → x ≡ made.Refused k → NewIs mode out (saved.Refused k) out
     unfolding fitted new_after
-    new-refused k p =
+    new_refused k p =
         let q : new_in mode out ≡ saved.Refused k = in_is ∙ ap (λ (z : Made). fitted z out) p in
         (sym q, rw q)
 
@@ -70,8 +70,8 @@ module _ (mode out : List ℕ) {b : Bool} (e : b ≡ mode_whole mode) where
     after_is s p (saved.Size n) = rw (new_is, p)
     after_is s p (saved.Refused k) = refl
 
-    pub new-ready : (s : Sender) {r : Saved} {o : List ℕ} → x ≡ made.Ready s → r ≡ fitted (made.Ready s) out
+    pub new_ready : (s : Sender) {r : Saved} {o : List ℕ} → x ≡ made.Ready s → r ≡ fitted (made.Ready s) out
         → o ≡ stored_in s out (fitted (made.Ready s) out) → NewIs mode out r o
-    new-ready s p a c =
+    new_ready s p a c =
         let q : new_in mode out ≡ fitted (made.Ready s) out = in_is ∙ ap (λ (z : Made). fitted z out) p in
         (a ∙ sym q, rw q (c ∙ after_is s p (fitted (made.Ready s) out)))

@@ -27,52 +27,52 @@ use Rattle.host_sender.specs.Layout.{moment_at, average_at, trips_at, pending_at
 
 -- ---- a field behind a flag
 module _ (bytes : List ℕ) (at : ℕ) {b : Bool} (e : b ≡ flag_at bytes at) where
-  pub moment-there : {x : Float} {t : Time} → b ≡ true → x ≡ float_at bytes (at + 1) → t ≡ moment x → held.At t ≡ moment_at bytes at
+  pub moment_there : {x : Float} {t : Time} → b ≡ true → x ≡ float_at bytes (at + 1) → t ≡ moment x → held.At t ≡ moment_at bytes at
   unfolding moment_at
-  moment-there f g h = via_true held.Never e f (ap held.At (h ∙ ap moment g))
+  moment_there f g h = via_true held.Never e f (ap held.At (h ∙ ap moment g))
 
-  pub moment-none : b ≡ false → held.Never ≡ moment_at bytes at
+  pub moment_none : b ≡ false → held.Never ≡ moment_at bytes at
   unfolding moment_at
-  moment-none f = via_false _ e f refl
+  moment_none f = via_false _ e f refl
 
-  pub average-there : {x : Float} → b ≡ true → x ≡ float_at bytes (at + 1) → averaged.Of (span x) ≡ average_at bytes at
+  pub average_there : {x : Float} → b ≡ true → x ≡ float_at bytes (at + 1) → averaged.Of (span x) ≡ average_at bytes at
   unfolding average_at
-  average-there f g = via_true averaged.Empty e f (ap (λ (x : Float). averaged.Of (span x)) g)
+  average_there f g = via_true averaged.Empty e f (ap (λ (x : Float). averaged.Of (span x)) g)
 
-  pub average-none : b ≡ false → averaged.Empty ≡ average_at bytes at
+  pub average_none : b ≡ false → averaged.Empty ≡ average_at bytes at
   unfolding average_at
-  average-none f = via_false _ e f refl
+  average_none f = via_false _ e f refl
 
-  pub trips-there : {x y : Float} → b ≡ true → x ≡ float_at bytes (at + 1) → y ≡ float_at bytes (at + 9) → trips.Known (span x) (span y) ≡ trips_at bytes at
+  pub trips_there : {x y : Float} → b ≡ true → x ≡ float_at bytes (at + 1) → y ≡ float_at bytes (at + 9) → trips.Known (span x) (span y) ≡ trips_at bytes at
   unfolding trips_at
-  trips-there f g h = via_true trips.Unknown e f (λ j. trips.Known (span (g j)) (span (h j)))
+  trips_there f g h = via_true trips.Unknown e f (λ j. trips.Known (span (g j)) (span (h j)))
 
-  pub trips-none : b ≡ false → trips.Unknown ≡ trips_at bytes at
+  pub trips_none : b ≡ false → trips.Unknown ≡ trips_at bytes at
   unfolding trips_at
-  trips-none f = via_false _ e f refl
+  trips_none f = via_false _ e f refl
 
-  pub pending-there : {n : ℕ} {a : Action} → b ≡ true → n ≡ number_at bytes (at + 1) 4 → a ≡ action_at bytes (at + 5) → Repeat n a ≡ pending_at bytes at
+  pub pending_there : {n : ℕ} {a : Action} → b ≡ true → n ≡ number_at bytes (at + 1) 4 → a ≡ action_at bytes (at + 5) → Repeat n a ≡ pending_at bytes at
   unfolding pending_at
-  pending-there f g h = via_true Idle e f (λ j. Repeat (g j) (h j))
+  pending_there f g h = via_true Idle e f (λ j. Repeat (g j) (h j))
 
-  pub pending-none : b ≡ false → Idle ≡ pending_at bytes at
+  pub pending_none : b ≡ false → Idle ≡ pending_at bytes at
   unfolding pending_at
-  pending-none f = via_false _ e f refl
+  pending_none f = via_false _ e f refl
 
 -- ---- the repeat mode
 module _ (bytes : List ℕ) (at : ℕ) {code : ℕ} (e : code ≡ get_or bytes at 0) where
-  pub mode-off : code ≡ 0 → Off ≡ mode_at bytes at
+  pub mode_off : code ≡ 0 → Off ≡ mode_at bytes at
   unfolding mode_at
-  mode-off f = rw (← e, eq-eqb code 0 f)
+  mode_off f = rw (← e, eq-eqb code 0 f)
 
   module _ (n : code ≡ 0 → ⊥) {lo : ℕ} (l : lo ≡ number_at bytes (at + 1) 4) where
-    pub mode-always : code ≡ 1 → Always lo ≡ mode_at bytes at
+    pub mode_always : code ≡ 1 → Always lo ≡ mode_at bytes at
     unfolding mode_at
-    mode-always f = rw (← e, ne_eqb code 0 n, eq-eqb code 1 f) (ap Always l)
+    mode_always f = rw (← e, ne_eqb code 0 n, eq-eqb code 1 f) (ap Always l)
 
-    pub mode-between : {hi : ℕ} → (code ≡ 1 → ⊥) → hi ≡ number_at bytes (at + 5) 4 → Between lo hi ≡ mode_at bytes at
+    pub mode_between : {hi : ℕ} → (code ≡ 1 → ⊥) → hi ≡ number_at bytes (at + 5) 4 → Between lo hi ≡ mode_at bytes at
     unfolding mode_at
-    mode-between f h = rw (← e, ne_eqb code 0 n, ne_eqb code 1 f) (λ j. Between (l j) (h j))
+    mode_between f h = rw (← e, ne_eqb code 0 n, ne_eqb code 1 f) (λ j. Between (l j) (h j))
 
 -- ---- the sender, from its fields
 pub sender_read : (bytes : List ℕ) {a b c : Moment} {d e : Average} {f : Rtt} {g : Pending} {h : RepeatMode} {w : ℕ} {x : Float} → a ≡ moment_at bytes 0

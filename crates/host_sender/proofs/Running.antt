@@ -30,26 +30,26 @@ use Rattle.host_sender.specs.Parts.{code_of, shown_by, clipped_by}
 
 -- ---- a draw
 module _ (bytes : List ℕ) (at : ℕ) {b : Bool} (e : b ≡ flag_at bytes at) where
-  pub draw-there : {n : ℕ} → b ≡ true → n ≡ number_at bytes (at + 1) 4 → Given n ≡ draw_at bytes at
-  draw-there f g = via_true Absent e f (ap Given g)
+  pub draw_there : {n : ℕ} → b ≡ true → n ≡ number_at bytes (at + 1) 4 → Given n ≡ draw_at bytes at
+  draw_there f g = via_true Absent e f (ap Given g)
 
-  pub draw-none : b ≡ false → Absent ≡ draw_at bytes at
-  draw-none f = via_false _ e f refl
+  pub draw_none : b ≡ false → Absent ≡ draw_at bytes at
+  draw_none f = via_false _ e f refl
 
 -- ---- an event by its code
 module _ (bytes : List ℕ) {code : ℕ} (e : code ≡ get_or bytes 0 0) where
-  pub by-ack : {sent received : Float} {draw : Draw} → code ≡ 0 → sent ≡ float_at bytes 1 → received ≡ float_at bytes 9 → draw ≡ draw_at bytes 17
+  pub by_ack : {sent received : Float} {draw : Draw} → code ≡ 0 → sent ≡ float_at bytes 1 → received ≡ float_at bytes 9 → draw ≡ draw_at bytes 17
       → Ack sent received draw ≡ event_at bytes 0
   unfolding event_at
-  by-ack f a b d = rw (← e, eq-eqb code 0 f) (λ j. Ack (a j) (b j) (d j))
+  by_ack f a b d = rw (← e, eq-eqb code 0 f) (λ j. Ack (a j) (b j) (d j))
 
-  pub by-send : {sent : Float} → (code ≡ 0 → ⊥) → code ≡ 1 → sent ≡ float_at bytes 1 → Send sent ≡ event_at bytes 0
+  pub by_send : {sent : Float} → (code ≡ 0 → ⊥) → code ≡ 1 → sent ≡ float_at bytes 1 → Send sent ≡ event_at bytes 0
   unfolding event_at
-  by-send n f a = rw (← e, ne_eqb code 0 n, eq-eqb code 1 f) (ap Send a)
+  by_send n f a = rw (← e, ne_eqb code 0 n, eq-eqb code 1 f) (ap Send a)
 
-  pub by-tick : (code ≡ 0 → ⊥) → (code ≡ 1 → ⊥) → Tick ≡ event_at bytes 0
+  pub by_tick : (code ≡ 0 → ⊥) → (code ≡ 1 → ⊥) → Tick ≡ event_at bytes 0
   unfolding event_at
-  by-tick n m = rw (← e, ne_eqb code 0 n, ne_eqb code 1 m)
+  by_tick n m = rw (← e, ne_eqb code 0 n, ne_eqb code 1 m)
 
 -- ---- what is read of a part of a list, as of the list
 part_taken : (k m n : ℕ) (l : List ℕ) → k + n ≤ m → take n (drop k (take m l)) ≡ take n (drop k l)
@@ -112,34 +112,34 @@ module _ (t : RuleTree) (s : Sender) (list : List ℕ) where
   unfolding replies_bytes
   none_put out = refl
 
-  pub replies-count : (n : ℕ) → length (replies_bytes t s list n) ≡ 6 * n
+  pub replies_count : (n : ℕ) → length (replies_bytes t s list n) ≡ 6 * n
   unfolding replies_bytes
-  replies-count zero = refl
-  replies-count (suc n) =
+  replies_count zero = refl
+  replies_count (suc n) =
       let r = event_on t (sender_after t s list n) list (22 * n) in
-      length-append (replies_bytes t s list n) (reply_bytes r) ∙ omega (arith, replies-count n, reply_count r)
+      length-append (replies_bytes t s list n) (reply_bytes r) ∙ omega (arith, replies_count n, reply_count r)
 
   module _ (i m : ℕ) (e : m ≡ 22) {u : Sender} {x : Event} {r : Reply} (p : u ≡ sender_after t s list i)
       (d : x ≡ event_at (take m (drop (22 * i) list)) 0) (q : r ≡ replied_to u (on t x))
     where
-      event-is : r ≡ event_on t (sender_after t s list i) list (22 * i)
-      event-is = q ∙ (λ j. replied_to (p j) (on t (d j))) ∙ ap (λ (z : Event). replied_to (sender_after t s list i) (on t z)) (event_part list (22 * i) m e)
+      event_is : r ≡ event_on t (sender_after t s list i) list (22 * i)
+      event_is = q ∙ (λ j. replied_to (p j) (on t (d j))) ∙ ap (λ (z : Event). replied_to (sender_after t s list i) (on t z)) (event_part list (22 * i) m e)
 
-      pub sender-turn : {v : Sender} → v ≡ left_by u r → v ≡ sender_after t s list (i + 1)
+      pub sender_turn_lem : {v : Sender} → v ≡ left_by u r → v ≡ sender_after t s list (i + 1)
       unfolding sender_after
-      sender-turn f = rw add-one (f ∙ (λ j. left_by (p j) (event-is j)))
+      sender_turn_lem f = rw add-one (f ∙ (λ j. left_by (p j) (event_is j)))
 
-      pub replies-turn : (out : List ℕ) {o w : List ℕ} → o ≡ sets out 0 (replies_bytes t s list i) → w ≡ sets o (6 * i) (reply_bytes r)
+      pub replies_turn : (out : List ℕ) {o w : List ℕ} → o ≡ sets out 0 (replies_bytes t s list i) → w ≡ sets o (6 * i) (reply_bytes r)
           → w ≡ sets out 0 (replies_bytes t s list (i + 1))
       unfolding replies_bytes
-      replies-turn out {o} a b =
+      replies_turn out {o} a b =
           rw add-one (wrote out o 0 (6 * i) (replies_bytes t s list i) (reply_bytes r)
-          (b ∙ ap (λ (k : ℕ). sets o k (reply_bytes r)) (let z : 6 * i ≡ 0 + 6 * i = omega arith in z)) a (replies-count i)
-          ∙ ap (λ (z : Reply). sets out 0 (replies_bytes t s list i ++ reply_bytes z)) event-is)
+          (b ∙ ap (λ (k : ℕ). sets o k (reply_bytes r)) (let z : 6 * i ≡ 0 + 6 * i = omega arith in z)) a (replies_count i)
+          ∙ ap (λ (z : Reply). sets out 0 (replies_bytes t s list i ++ reply_bytes z)) event_is)
 
-  pub sender-all : (i n : ℕ) {u : Sender} → i ≤ n → n ≤ i → u ≡ sender_after t s list i → u ≡ sender_after t s list n
-  sender-all i n a b p = p ∙ ap (sender_after t s list) (let e : i ≡ n = omega arith in e)
+  pub sender_all : (i n : ℕ) {u : Sender} → i ≤ n → n ≤ i → u ≡ sender_after t s list i → u ≡ sender_after t s list n
+  sender_all i n a b p = p ∙ ap (sender_after t s list) (let e : i ≡ n = omega arith in e)
 
-  pub replies-all : (out : List ℕ) (i n : ℕ) {o : List ℕ} → i ≤ n → n ≤ i → o ≡ sets out 0 (replies_bytes t s list i)
+  pub replies_all : (out : List ℕ) (i n : ℕ) {o : List ℕ} → i ≤ n → n ≤ i → o ≡ sets out 0 (replies_bytes t s list i)
       → o ≡ sets out 0 (replies_bytes t s list n)
-  replies-all out i n a b p = p ∙ ap (λ (k : ℕ). sets out 0 (replies_bytes t s list k)) (let e : i ≡ n = omega arith in e)
+  replies_all out i n a b p = p ∙ ap (λ (k : ℕ). sets out 0 (replies_bytes t s list k)) (let e : i ≡ n = omega arith in e)

@@ -11,7 +11,7 @@ use Rattle.rule_tree.proofs.Plain.{ActionFits}
 use Rattle.wire.specs.Bytes.{bytes_of}
 use Rattle.wire.specs.Fields.{float_bytes, action_bytes}
 use Rattle.wire.proofs.Bytes.{bytes_count}
-use Rattle.record.proofs.Stands.{Stands, stands_all, first, next, onward, number-back, byte-back, float_back, action-back}
+use Rattle.record.proofs.Stands.{Stands, stands_all, first, next, onward, number_back, byte_back, float_back, action_back}
 use Rattle.sender.specs.declared.Moment.{Moment}
 use Rattle.sender.specs.declared.Moment.TheVariants as held
 use Rattle.sender.specs.declared.Average.{Average}
@@ -37,57 +37,57 @@ module _ (bytes : List ℕ) (at : ℕ) where
   after : (x : ℕ) (y : List ℕ) → Stands bytes at (x ∷ y) → Stands bytes (at + 1) y
   after x y h = next bytes at 1 (x ∷ []) y refl h
 
-  moment-back : (m : Moment) → FitMoment m → Stands bytes at (moment_bytes m) → moment_at bytes at ≡ m
+  moment_back : (m : Moment) → FitMoment m → Stands bytes at (moment_bytes m) → moment_at bytes at ≡ m
   unfolding moment_bytes moment_at
-  moment-back held.Never f h = rw (byte-back bytes at 0 (replicate 8 0) h)
-  moment-back (held.At t) f h =
-      rw (byte-back bytes at 1 (float_bytes t.0) h)
+  moment_back held.Never f h = rw (byte_back bytes at 0 (replicate 8 0) h)
+  moment_back (held.At t) f h =
+      rw (byte_back bytes at 1 (float_bytes t.0) h)
       (ap (λ (x : Float). held.At (moment x)) (float_back bytes (at + 1) t.0 f (after 1 (float_bytes t.0) h)))
 
-  average-back : (a : Average) → FitAverage a → Stands bytes at (average_bytes a) → average_at bytes at ≡ a
+  average_back : (a : Average) → FitAverage a → Stands bytes at (average_bytes a) → average_at bytes at ≡ a
   unfolding average_bytes average_at
-  average-back averaged.Empty f h = rw (byte-back bytes at 0 (replicate 8 0) h)
-  average-back (averaged.Of a) f h =
-      rw (byte-back bytes at 1 (float_bytes a.0) h)
+  average_back averaged.Empty f h = rw (byte_back bytes at 0 (replicate 8 0) h)
+  average_back (averaged.Of a) f h =
+      rw (byte_back bytes at 1 (float_bytes a.0) h)
       (ap (λ (x : Float). averaged.Of (span x)) (float_back bytes (at + 1) a.0 f (after 1 (float_bytes a.0) h)))
 
-  trips-back : (r : Rtt) → FitTrips r → Stands bytes at (trips_bytes r) → trips_at bytes at ≡ r
+  trips_back : (r : Rtt) → FitTrips r → Stands bytes at (trips_bytes r) → trips_at bytes at ≡ r
   unfolding trips_bytes trips_at
-  trips-back trips.Unknown f h = rw (byte-back bytes at 0 (replicate 16 0) h)
-  trips-back (trips.Known shortest current) f h =
+  trips_back trips.Unknown f h = rw (byte_back bytes at 0 (replicate 16 0) h)
+  trips_back (trips.Known shortest current) f h =
       let x = float_bytes shortest.0 in
       let y = float_bytes current.0 in
       let h1 = after 1 (x ++ y) h in
       let p = float_back bytes (at + 1) shortest.0 f.0 (first bytes (at + 1) x y h1) in
       let q = float_back bytes (at + 9) current.0 f.1 (onward bytes at 1 8 9 x y (bytes_count 8 _) refl h1) in
-      rw (byte-back bytes at 1 (x ++ y) h) (λ j. trips.Known (span (p j)) (span (q j)))
+      rw (byte_back bytes at 1 (x ++ y) h) (λ j. trips.Known (span (p j)) (span (q j)))
 
-  pending-back : (p : Pending) → FitPending p → Stands bytes at (pending_bytes p) → pending_at bytes at ≡ p
+  pending_back : (p : Pending) → FitPending p → Stands bytes at (pending_bytes p) → pending_at bytes at ≡ p
   unfolding pending_bytes pending_at
-  pending-back Idle f h = rw (byte-back bytes at 0 (replicate 24 0) h)
-  pending-back (Repeat left a) f h =
+  pending_back Idle f h = rw (byte_back bytes at 0 (replicate 24 0) h)
+  pending_back (Repeat left a) f h =
       let x = bytes_of 4 left in
       let y = action_bytes a in
       let h1 = after 1 (x ++ y) h in
-      let p = number-back bytes (at + 1) 4 left f.0 (first bytes (at + 1) x y h1) in
-      let q = action-back bytes (at + 5) a (action_fits a f.1) (onward bytes at 1 4 5 x y (bytes_count 4 left) refl h1) in
-      rw (byte-back bytes at 1 (x ++ y) h) (λ j. Repeat (p j) (q j))
+      let p = number_back bytes (at + 1) 4 left f.0 (first bytes (at + 1) x y h1) in
+      let q = action_back bytes (at + 5) a (action_fits a f.1) (onward bytes at 1 4 5 x y (bytes_count 4 left) refl h1) in
+      rw (byte_back bytes at 1 (x ++ y) h) (λ j. Repeat (p j) (q j))
 
-  mode-back : (m : RepeatMode) → FitMode m → Stands bytes at (mode_bytes m) → mode_at bytes at ≡ m
+  mode_back : (m : RepeatMode) → FitMode m → Stands bytes at (mode_bytes m) → mode_at bytes at ≡ m
   unfolding mode_bytes mode_at
-  mode-back Off f h = rw (byte-back bytes at 0 (replicate 8 0) h)
-  mode-back (Always n) f h =
+  mode_back Off f h = rw (byte_back bytes at 0 (replicate 8 0) h)
+  mode_back (Always n) f h =
       let x = bytes_of 4 n in
       let y = bytes_of 4 0 in
-      rw (byte-back bytes at 1 (x ++ y) h)
-      (ap Always (number-back bytes (at + 1) 4 n f (first bytes (at + 1) x y (after 1 (x ++ y) h))))
-  mode-back (Between lo hi) f h =
+      rw (byte_back bytes at 1 (x ++ y) h)
+      (ap Always (number_back bytes (at + 1) 4 n f (first bytes (at + 1) x y (after 1 (x ++ y) h))))
+  mode_back (Between lo hi) f h =
       let x = bytes_of 4 lo in
       let y = bytes_of 4 hi in
       let h1 = after 2 (x ++ y) h in
-      let p = number-back bytes (at + 1) 4 lo f.0 (first bytes (at + 1) x y h1) in
-      let q = number-back bytes (at + 5) 4 hi f.1 (onward bytes at 1 4 5 x y (bytes_count 4 lo) refl h1) in
-      rw (byte-back bytes at 2 (x ++ y) h) (λ j. Between (p j) (q j))
+      let p = number_back bytes (at + 1) 4 lo f.0 (first bytes (at + 1) x y h1) in
+      let q = number_back bytes (at + 5) 4 hi f.1 (onward bytes at 1 4 5 x y (bytes_count 4 lo) refl h1) in
+      rw (byte_back bytes at 2 (x ++ y) h) (λ j. Between (p j) (q j))
 
 -- ---- the sender
 sender_back : (bytes : List ℕ) (s : Sender) → FitSender s → Stands bytes 0 (sender_bytes s) → s ≡ sender_at bytes
@@ -113,15 +113,15 @@ sender_back bytes s f h =
     let h96 = next bytes 87 9 u (w ++ x) (moment_count s.last_send) h87 in
     let h100 = next bytes 96 4 w x (bytes_count 4 _) h96 in
     sender_read bytes
-    (sym (moment-back bytes 0 s.last_ack f.acked (first bytes 0 a _ h)))
-    (sym (moment-back bytes 9 s.last_ack_send f.acked_sent (first bytes 9 b _ h9)))
-    (sym (average-back bytes 18 s.ack_ewma f.acks (first bytes 18 d _ h18)))
-    (sym (average-back bytes 27 s.send_ewma f.sends (first bytes 27 e _ h27)))
-    (sym (trips-back bytes 36 s.rtt f.trips (first bytes 36 p _ h36)))
-    (sym (pending-back bytes 53 s.next_change f.pending (first bytes 53 q _ h53)))
-    (sym (mode-back bytes 78 s.repeat_actions f.mode (first bytes 78 r _ h78)))
-    (sym (moment-back bytes 87 s.last_send f.standing (first bytes 87 u _ h87)))
-    (sym (number-back bytes 96 4 s.window f.window (first bytes 96 w x h96)))
+    (sym (moment_back bytes 0 s.last_ack f.acked (first bytes 0 a _ h)))
+    (sym (moment_back bytes 9 s.last_ack_send f.acked_sent (first bytes 9 b _ h9)))
+    (sym (average_back bytes 18 s.ack_ewma f.acks (first bytes 18 d _ h18)))
+    (sym (average_back bytes 27 s.send_ewma f.sends (first bytes 27 e _ h27)))
+    (sym (trips_back bytes 36 s.rtt f.trips (first bytes 36 p _ h36)))
+    (sym (pending_back bytes 53 s.next_change f.pending (first bytes 53 q _ h53)))
+    (sym (mode_back bytes 78 s.repeat_actions f.mode (first bytes 78 r _ h78)))
+    (sym (moment_back bytes 87 s.last_send f.standing (first bytes 87 u _ h87)))
+    (sym (number_back bytes 96 4 s.window f.window (first bytes 96 w x h96)))
     (sym (float_back bytes 100 s.intersend_delay.0 f.wait h100))
 
 pub record Whole (s : Sender) : Type 0 where

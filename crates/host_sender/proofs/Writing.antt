@@ -72,45 +72,45 @@ sender_count s =
 
 -- ---- a flag and what it says is there
 module _ (l : List ℕ) (at : ℕ) {r : List ℕ} where
-  pub float-written : (x : Float) (n : ℕ) → n ≡ to_bits binary64 x → r ≡ sets (set l at 1) (at + 1) (bytes_of 8 n) → r ≡ sets l at (1 ∷ float_bytes x)
-  float-written x n e q = wrote l (set l at 1) at 1 (1 ∷ []) (bytes_of 8 n) q refl refl ∙ rw e
+  pub float_written : (x : Float) (n : ℕ) → n ≡ to_bits binary64 x → r ≡ sets (set l at 1) (at + 1) (bytes_of 8 n) → r ≡ sets l at (1 ∷ float_bytes x)
+  float_written x n e q = wrote l (set l at 1) at 1 (1 ∷ []) (bytes_of 8 n) q refl refl ∙ rw e
 
-  pub moment-none : {m : Moment} → m ≡ held.Never → r ≡ sets l at (bytes_of 9 0) → r ≡ sets l at (moment_bytes m)
+  pub moment_none : {m : Moment} → m ≡ held.Never → r ≡ sets l at (bytes_of 9 0) → r ≡ sets l at (moment_bytes m)
   unfolding moment_bytes bytes_of
-  moment-none e q = rw e q
+  moment_none e q = rw e q
 
-  pub moment-there : {m : Moment} (t : Time) {x : Float} → m ≡ held.At t → x ≡ t.0 → r ≡ sets l at (1 ∷ float_bytes x)
+  pub moment_there : {m : Moment} (t : Time) {x : Float} → m ≡ held.At t → x ≡ t.0 → r ≡ sets l at (1 ∷ float_bytes x)
       → r ≡ sets l at (moment_bytes m)
   unfolding moment_bytes
-  moment-there t e p q = rw e (q ∙ ap (λ (z : Float). sets l at (1 ∷ float_bytes z)) p)
+  moment_there t e p q = rw e (q ∙ ap (λ (z : Float). sets l at (1 ∷ float_bytes z)) p)
 
-  pub average-none : {a : Average} → a ≡ averaged.Empty → r ≡ sets l at (bytes_of 9 0) → r ≡ sets l at (average_bytes a)
+  pub average_none : {a : Average} → a ≡ averaged.Empty → r ≡ sets l at (bytes_of 9 0) → r ≡ sets l at (average_bytes a)
   unfolding average_bytes bytes_of
-  average-none e q = rw e q
+  average_none e q = rw e q
 
-  pub average-there : {a : Average} (x : TimeSpan) → a ≡ averaged.Of x → r ≡ sets l at (1 ∷ float_bytes x.0) → r ≡ sets l at (average_bytes a)
+  pub average_there : {a : Average} (x : TimeSpan) → a ≡ averaged.Of x → r ≡ sets l at (1 ∷ float_bytes x.0) → r ≡ sets l at (average_bytes a)
   unfolding average_bytes
-  average-there x e q = rw e q
+  average_there x e q = rw e q
 
-  pub trips-none : {t : Rtt} → t ≡ trips.Unknown → r ≡ sets l at (bytes_of 17 0) → r ≡ sets l at (trips_bytes t)
+  pub trips_none : {t : Rtt} → t ≡ trips.Unknown → r ≡ sets l at (bytes_of 17 0) → r ≡ sets l at (trips_bytes t)
   unfolding trips_bytes bytes_of
-  trips-none e q = rw e q
+  trips_none e q = rw e q
 
-  pub trips-there : {t : Rtt} (x y : TimeSpan) (n : ℕ) {m : List ℕ} → t ≡ trips.Known x y → n ≡ to_bits binary64 y.0
+  pub trips_there : {t : Rtt} (x y : TimeSpan) (n : ℕ) {m : List ℕ} → t ≡ trips.Known x y → n ≡ to_bits binary64 y.0
       → m ≡ sets l at (1 ∷ float_bytes x.0) → r ≡ sets m (at + 9) (bytes_of 8 n) → r ≡ sets l at (trips_bytes t)
   unfolding trips_bytes
-  trips-there x y n {m} e f p q =
+  trips_there x y n {m} e f p q =
       rw e (wrote l m at 9 (1 ∷ float_bytes x.0) (bytes_of 8 n) q p (ap suc (bytes_count 8 _))
       ∙ ap (λ (k : ℕ). sets l at (1 ∷ (float_bytes x.0 ++ bytes_of 8 k))) f)
 
-  pub pending-none : {p : Pending} → p ≡ Idle → r ≡ sets l at (bytes_of 25 0) → r ≡ sets l at (pending_bytes p)
+  pub pending_none : {p : Pending} → p ≡ Idle → r ≡ sets l at (bytes_of 25 0) → r ≡ sets l at (pending_bytes p)
   unfolding pending_bytes bytes_of
-  pending-none e q = rw e q
+  pending_none e q = rw e q
 
-  pub pending-there : {z : Pending} (n : ℕ) (a : Action) {m : List ℕ} → z ≡ Repeat n a → m ≡ sets (set l at 1) (at + 1) (bytes_of 4 n)
+  pub pending_there : {z : Pending} (n : ℕ) (a : Action) {m : List ℕ} → z ≡ Repeat n a → m ≡ sets (set l at 1) (at + 1) (bytes_of 4 n)
       → r ≡ sets m (at + 5) (action_bytes a) → r ≡ sets l at (pending_bytes z)
   unfolding pending_bytes
-  pending-there n a e p q =
+  pending_there n a e p q =
       rw e (three l at (1 ∷ []) (bytes_of 4 n) (action_bytes a) 1 5 {l1 = set l at 1} refl p q refl (ap suc (bytes_count 4 n)))
 
   -- ---- the repeat mode
@@ -119,32 +119,32 @@ module _ (l : List ℕ) (at : ℕ) {r : List ℕ} where
   numbers_written code lo hi p q =
       three l at (code ∷ []) (bytes_of 4 lo) (bytes_of 4 hi) 1 5 {l1 = set l at code} refl p q refl (ap suc (bytes_count 4 lo))
 
-  pub mode-off : {m : RepeatMode} → m ≡ Off → r ≡ sets l at (bytes_of 9 0) → r ≡ sets l at (mode_bytes m)
+  pub mode_off : {m : RepeatMode} → m ≡ Off → r ≡ sets l at (bytes_of 9 0) → r ≡ sets l at (mode_bytes m)
   unfolding mode_bytes bytes_of
-  mode-off e q = rw e q
+  mode_off e q = rw e q
 
-  pub mode-always : {m : RepeatMode} (n : ℕ) → m ≡ Always n → r ≡ sets l at (1 ∷ (bytes_of 4 n ++ bytes_of 4 0)) → r ≡ sets l at (mode_bytes m)
+  pub mode_always : {m : RepeatMode} (n : ℕ) → m ≡ Always n → r ≡ sets l at (1 ∷ (bytes_of 4 n ++ bytes_of 4 0)) → r ≡ sets l at (mode_bytes m)
   unfolding mode_bytes
-  mode-always n e q = rw e q
+  mode_always n e q = rw e q
 
-  pub mode-between : {m : RepeatMode} (lo hi : ℕ) → m ≡ Between lo hi → r ≡ sets l at (2 ∷ (bytes_of 4 lo ++ bytes_of 4 hi)) → r ≡ sets l at (mode_bytes m)
+  pub mode_between : {m : RepeatMode} (lo hi : ℕ) → m ≡ Between lo hi → r ≡ sets l at (2 ∷ (bytes_of 4 lo ++ bytes_of 4 hi)) → r ≡ sets l at (mode_bytes m)
   unfolding mode_bytes
-  mode-between lo hi e q = rw e q
+  mode_between lo hi e q = rw e q
 
 -- ---- the sender, from its fields
 module _ (l : List ℕ) (s : Sender) {l1 l2 l3 l4 l5 : List ℕ} where
-  pub memory-written : l1 ≡ sets l 0 (moment_bytes s.last_ack) → l2 ≡ sets l1 9 (moment_bytes s.last_ack_send)
+  pub memory_written : l1 ≡ sets l 0 (moment_bytes s.last_ack) → l2 ≡ sets l1 9 (moment_bytes s.last_ack_send)
       → l3 ≡ sets l2 18 (average_bytes s.ack_ewma) → l4 ≡ sets l3 27 (average_bytes s.send_ewma) → l5 ≡ sets l4 36 (trips_bytes s.rtt)
       → l5 ≡ sets l 0 (memory_bytes s)
-  memory-written p q r u v =
+  memory_written p q r u v =
       five l 0 (moment_bytes s.last_ack) (moment_bytes s.last_ack_send) (average_bytes s.ack_ewma) 9 18
       (average_bytes s.send_ewma) 27 (trips_bytes s.rtt) 36 p q r u v
       (moment_count _) (simp (length-append, moment_count)) (simp (length-append, moment_count, average_count)) (simp (length-append, moment_count, average_count))
 
-  pub pace-written : (d : ℕ) → d ≡ to_bits binary64 s.intersend_delay.0 → l1 ≡ sets l 53 (pending_bytes s.next_change)
+  pub pace_written : (d : ℕ) → d ≡ to_bits binary64 s.intersend_delay.0 → l1 ≡ sets l 53 (pending_bytes s.next_change)
       → l2 ≡ sets l1 78 (mode_bytes s.repeat_actions) → l3 ≡ sets l2 87 (moment_bytes s.last_send)
       → l4 ≡ sets l3 96 (bytes_of 4 s.window) → l5 ≡ sets l4 100 (bytes_of 8 d) → l5 ≡ sets l 53 (pace_bytes s)
-  pace-written d e p q r u v =
+  pace_written d e p q r u v =
       five l 53 (pending_bytes s.next_change) (mode_bytes s.repeat_actions) (moment_bytes s.last_send) 25 34
       (bytes_of 4 s.window) 43 (bytes_of 8 d) 47 p q r u v
       (pending_count _) (simp (length-append, pending_count, mode_count)) (simp (length-append, pending_count, mode_count, moment_count)) (simp (length-append, pending_count, mode_count, moment_count, bytes_count))

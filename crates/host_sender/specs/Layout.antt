@@ -1,5 +1,5 @@
 -- A sender in 108 bytes. Numbers are big-endian, floats stand by their bits; a flag of 1 says that the value after it is there.
-use Rattle.std.specs.Prelude.{Bool, true, false, ◌&&◌, cond, List, [], ◌∷◌, ◌++◌, ℕ, ◌+◌, length, get_or, drop, replicate, eqb, leb, Float}
+use Rattle.std.specs.Prelude.{Bool, ◌&&◌, cond, List, [], ◌∷◌, ◌++◌, ℕ, ◌+◌, length, get_or, drop, replicate, eqb, leb}
 use Rattle.refusal.specs.Numbers.{bad_settings, short_buffer}
 use Rattle.quantities.specs.Time.{span, moment}
 use Rattle.wire.specs.Bytes.{bytes_of, number_at}

@@ -1,4 +1,6 @@
 // A sender for hosts: it is kept in 108 bytes, and acks, sends and ticks come in bytes.
+#![tactic(auto)]
+
 ghost use Rattle.std.specs.Prelude.{◌≡◌};
 ghost use Rattle.record.specs.Calls.{load_of};
 ghost use Rattle.host_sender.specs.Layout.{new_in, new_after};

@@ -2,13 +2,11 @@
 use mathlib.Core.Path.{◌≡◌, refl, sym, ap, ◌∙◌}
 use mathlib.Core.Bool.{true, false}
 use mathlib.Core.List.{List, [], ◌∷◌, ◌++◌}
-use mathlib.Core.Logic.{◌⊎◌, inl, inr}
-use Prim.Native.Nat.{ℕ, zero, suc, ◌+◌, ◌*◌, ◌-◌, ◌/◌, ◌%◌, ◌<◌, ◌≤◌}
+use Prim.Native.Nat.{ℕ, zero, suc, ◌+◌, ◌*◌, ◌/◌, ◌%◌, ◌<◌, ◌≤◌}
 use native.Mathlib.Nat.{suc-add}
 use native.Mathlib.Numerals.{add-one}
 use native.Mathlib.Omega.{arith}
 use borrow.Author.Tests.{eq-eqb, ne_eqb, le-leb, lt-leb}
-use denote.Enum.Declared.{tag_of}
 use lib.Ieee.{Float, binary64, of_bits}
 use lib.ListN.{length, set, take, drop, replicate, length-append, length-replicate}
 use lib.Seq.{sets, take-nil, take-take, drop-drop}
@@ -22,8 +20,7 @@ use Rattle.rule_tree.specs.declared.Looked.TheVariants as looked
 use Rattle.rule_tree.specs.Grown.{grown_of}
 use Rattle.rule_tree.specs.Change.{with_action}
 use Rattle.rule_tree.specs.Calls.{leaf_in, found_in, lookup_of, replaced_of}
-use Rattle.rule_tree.specs.contracts.Looked.{the_type}
-use Rattle.rule_tree.proofs.Changing.{action-grown}
+use Rattle.rule_tree.proofs.Changing.{action_grown}
 use Rattle.trainer.specs.declared.Answered.{Answered}
 use Rattle.record.specs.declared.Saved.{Saved}
 use Rattle.record.specs.declared.Saved.TheVariants.{Size, Refused}
@@ -34,7 +31,7 @@ use Rattle.record.specs.Calls.{load_of}
 use Rattle.wire.proofs.Stores.{wrote}
 use Rattle.record.proofs.Writing.{action_count}
 use Rattle.record.proofs.CallWays.{stored}
-use Rattle.record.proofs.Loading.{accepted-grown, load_again}
+use Rattle.record.proofs.Loading.{accepted_grown, load_again}
 use Rattle.host_trainer.specs.Lookups.{point_at, found_bytes, looked_bytes, sized, lookups_in, looks_after, lookups, lookups_after, replaced_in, replaced, replaced_after}
 use Rattle.host_trainer.specs.Parts.{replaced_for, replaced_look}
 
@@ -80,71 +77,70 @@ zeros : replicate 21 0 ≡ bytes_of 21 0
 unfolding bytes_of
 zeros = refl
 
-pub none_put : (l : List ℕ) (at : ℕ) (x : Looked) {l2 : List ℕ} → (tag_of the_type x ≡ 1) ⊎ (tag_of the_type x ≡ 2) → l2 ≡ sets l at (bytes_of 21 0)
+pub none_put : (l : List ℕ) (at : ℕ) (x : Looked) {l2 : List ℕ} → ((a : Action) → x ≡ looked.Found a → ⊥) → l2 ≡ sets l at (bytes_of 21 0)
     → l2 ≡ sets l at (found_bytes x)
 unfolding found_bytes
-none_put l at (looked.Found a) (inl e) p = absurd (omega arith)
-none_put l at (looked.Found a) (inr e) p = absurd (omega arith)
-none_put l at looked.Nothing e p = p ∙ ap (sets l at) (sym zeros)
-none_put l at (looked.Refused k) e p = p ∙ ap (sets l at) (sym zeros)
+none_put l at (looked.Found a) n p = absurd (n a refl)
+none_put l at looked.Nothing n p = p ∙ ap (sets l at) (sym zeros)
+none_put l at (looked.Refused k) n p = p ∙ ap (sets l at) (sym zeros)
 
 -- ---- what the points find, one by one
 module _ (f : Point → Looked) (points : List ℕ) where
-  looked-suc : (i : ℕ) → looked_bytes f points (suc i) ≡ looked_bytes f points i ++ found_bytes (f (point_at points (24 * i)))
+  looked_suc : (i : ℕ) → looked_bytes f points (suc i) ≡ looked_bytes f points i ++ found_bytes (f (point_at points (24 * i)))
   unfolding looked_bytes
-  looked-suc i = refl
+  looked_suc i = refl
 
-  pub looked-count : (n : ℕ) → length (looked_bytes f points n) ≡ 21 * n
+  pub looked_count : (n : ℕ) → length (looked_bytes f points n) ≡ 21 * n
   unfolding looked_bytes
-  looked-count zero = refl
-  looked-count (suc n) =
-      let h = looked-count n in
+  looked_count zero = refl
+  looked_count (suc n) =
+      let h = looked_count n in
       let d = found_count (f (point_at points (24 * n))) in
       length-append (looked_bytes f points n) (found_bytes (f (point_at points (24 * n)))) ∙ omega arith
 
-  pub looks-none : (l : List ℕ) → l ≡ sets l 0 (looked_bytes f points 0)
+  pub looks_none : (l : List ℕ) → l ≡ sets l 0 (looked_bytes f points 0)
   unfolding looked_bytes
-  looks-none l = refl
+  looks_none l = refl
 
-  pub looks-turn : (l : List ℕ) (i m : ℕ) {l1 l2 : List ℕ} {p : Point} {x : Looked} → m ≡ 24 → l1 ≡ sets l 0 (looked_bytes f points i)
+  pub looks_turn : (l : List ℕ) (i m : ℕ) {l1 l2 : List ℕ} {p : Point} {x : Looked} → m ≡ 24 → l1 ≡ sets l 0 (looked_bytes f points i)
       → p ≡ point_at (take m (drop (24 * i) points)) 0 → x ≡ f p → l2 ≡ sets l1 (21 * i) (found_bytes x)
       → l2 ≡ sets l 0 (looked_bytes f points (i + 1))
-  looks-turn l i m {l1} {l2} {p} {x} em e ep ex q =
+  looks_turn l i m {l1} {l2} {p} {x} em e ep ex q =
       let same : found_bytes x ≡ found_bytes (f (point_at points (24 * i))) = ap found_bytes (ex ∙ ap f (ep ∙ ap (λ (k : ℕ). point_at (take k (drop (24 * i) points)) 0) em ∙ part_point points (24 * i))) in
       wrote l l1 0 (21 * i) (looked_bytes f points i) (found_bytes (f (point_at points (24 * i))))
       (q ∙ ap (λ (k : ℕ). sets l1 k (found_bytes x)) (let z : 21 * i ≡ 0 + 21 * i = omega arith in z) ∙ ap (sets l1 (0 + 21 * i)) same)
-      e (looked-count i)
-      ∙ ap (sets l 0) (sym (ap (looked_bytes f points) (add-one i) ∙ looked-suc i))
+      e (looked_count i)
+      ∙ ap (sets l 0) (sym (ap (looked_bytes f points) (add-one i) ∙ looked_suc i))
 
-  pub looks-done : (l m : List ℕ) (i n : ℕ) → i ≤ n → n ≤ i → m ≡ sets l 0 (looked_bytes f points i) → m ≡ sets l 0 (looked_bytes f points n)
-  looks-done l m i n a b e = e ∙ ap (λ (k : ℕ). sets l 0 (looked_bytes f points k)) (let q : i ≡ n = omega arith in q)
+  pub looks_done : (l m : List ℕ) (i n : ℕ) → i ≤ n → n ≤ i → m ≡ sets l 0 (looked_bytes f points i) → m ≡ sets l 0 (looked_bytes f points n)
+  looks_done l m i n a b e = e ∙ ap (λ (k : ℕ). sets l 0 (looked_bytes f points k)) (let q : i ≡ n = omega arith in q)
 
   -- ---- the whole answer
   module _ (out : List ℕ) where
     abbrev Looks : Saved → List ℕ → Type 0
     Looks r l = (r ≡ sized points out) × (l ≡ looks_after f points out (sized points out))
 
-    pub looks-taken : {l : List ℕ} → length points % 24 ≡ 0 → 21 * (length points / 24) ≤ length out
+    pub looks_taken : {l : List ℕ} → length points % 24 ≡ 0 → 21 * (length points / 24) ≤ length out
         → l ≡ sets out 0 (looked_bytes f points (length points / 24)) → Looks (Size (21 * (length points / 24))) l
     unfolding sized looks_after
-    looks-taken e h p =
+    looks_taken e h p =
         let n = length points / 24 in
-        let c = looked-count n in
+        let c = looked_count n in
         rw (eq-eqb (length points % 24) 0 e, le-leb (21 * n) (length out) h)
         (refl, stored out (looked_bytes f points n) (omega arith) p ∙ ap (λ (k : ℕ). looked_bytes f points n ++ drop k out) c)
 
-    pub looks-short : length points % 24 ≡ 0 → length out < 21 * (length points / 24) → Looks (Refused 9) out
+    pub looks_short : length points % 24 ≡ 0 → length out < 21 * (length points / 24) → Looks (Refused 9) out
     unfolding sized looks_after
-    looks-short e h = rw (eq-eqb (length points % 24) 0 e, lt-leb (21 * (length points / 24)) (length out) h) (refl, refl)
+    looks_short e h = rw (eq-eqb (length points % 24) 0 e, lt-leb (21 * (length points / 24)) (length out) h) (refl, refl)
 
-    pub looks-cut : (length points % 24 ≡ 0 → ⊥) → Looks (Refused 6) out
+    pub looks_cut : (length points % 24 ≡ 0 → ⊥) → Looks (Refused 6) out
     unfolding sized looks_after
-    looks-cut n = rw (ne_eqb (length points % 24) 0 n) (refl, refl)
+    looks_cut n = rw (ne_eqb (length points % 24) 0 n) (refl, refl)
 
 -- ---- the tree that was tested
 pub loaded_grown : (held : List ℕ) (a : Answered) → a ≡ load_of held → a.refused ≡ 0 → grown_of a.trainer.tree ≡ true
 loaded_grown held a e z =
-    accepted-grown a.trainer (load_again held a.trainer (sym e ∙ (λ j. record { refused = z j; trainer = a.trainer }))).accepted
+    accepted_grown a.trainer (load_again held a.trainer (sym e ∙ (λ j. record { refused = z j; trainer = a.trainer }))).accepted
 
 -- what a lookup gives where its tests hold
 look_is : (t : RuleTree) (p : Point) → grown_of t ≡ true → found_in t p ≡ lookup_of t p
@@ -172,58 +168,58 @@ unfolding lookups_in looks_after
 in_refused a f points out n = rw (ne_eqb a.refused 0 n) (refl, refl)
 
 module _ (held points out : List ℕ) (a : Answered) (loaded : a ≡ load_of held) where
-  looks-as : {r : Saved} {l : List ℕ}
+  looks_as : {r : Saved} {l : List ℕ}
       → (r ≡ lookups_in a points out) × (l ≡ looks_after (λ p. lookup_of a.trainer.tree p) points out (lookups_in a points out))
       → (r ≡ lookups held points out) × (l ≡ lookups_after held points out)
-  looks-as p = (
+  looks_as p = (
     p.0 ∙ ap (λ (z : Answered). lookups_in z points out) loaded,
     p.1 ∙ ap (λ (z : Answered). looks_after (λ p. lookup_of z.trainer.tree p) points out (lookups_in z points out)) loaded,
   )
 
-  pub lookup-taken : {r : Saved} {l : List ℕ} → a.refused ≡ 0 → Looks (found_in a.trainer.tree) points out r l
+  pub lookup_taken : {r : Saved} {l : List ℕ} → a.refused ≡ 0 → Looks (found_in a.trainer.tree) points out r l
       → (r ≡ lookups held points out) × (l ≡ lookups_after held points out)
-  lookup-taken e p =
+  lookup_taken e p =
       let t = a.trainer.tree in
-      looks-as
+      looks_as
       (in_taken a (λ p. lookup_of t p) points out e
       (p.0, p.1 ∙ looks_swap (found_in t) (λ p. lookup_of t p) points out (sized points out) (λ p. look_is t p (loaded_grown held a loaded e))))
 
-  pub lookup-refused : (a.refused ≡ 0 → ⊥) → (Refused a.refused ≡ lookups held points out) × (out ≡ lookups_after held points out)
-  lookup-refused n = looks-as (in_refused a (λ p. lookup_of a.trainer.tree p) points out n)
+  pub lookup_refused : (a.refused ≡ 0 → ⊥) → (Refused a.refused ≡ lookups held points out) × (out ≡ lookups_after held points out)
+  lookup_refused n = looks_as (in_refused a (λ p. lookup_of a.trainer.tree p) points out n)
 
 -- ---- lookup with one leaf's action replaced
 module _ (t : RuleTree) (leaf : ℕ) (action points out : List ℕ) where
   abbrev Replaced : Saved → List ℕ → Type 0
   Replaced r l = (r ≡ replaced_for t leaf action points out) × (l ≡ looks_after (replaced_look t leaf action) points out (replaced_for t leaf action points out))
 
-  pub replaced-no-leaf : leaf_in t leaf ≡ false → Replaced (Refused 3) out
+  pub replaced_no_leaf : leaf_in t leaf ≡ false → Replaced (Refused 3) out
   unfolding replaced_for looks_after
-  replaced-no-leaf h = rw h (refl, refl)
+  replaced_no_leaf h = rw h (refl, refl)
 
-  pub replaced-length : leaf_in t leaf ≡ true → (length action ≡ 20 → ⊥) → Replaced (Refused 6) out
+  pub replaced_length : leaf_in t leaf ≡ true → (length action ≡ 20 → ⊥) → Replaced (Refused 6) out
   unfolding replaced_for looks_after
-  replaced-length h n = rw (h, ne_eqb (length action) 20 n) (refl, refl)
+  replaced_length h n = rw (h, ne_eqb (length action) 20 n) (refl, refl)
 
   module _ {x : Action} (read : x ≡ action_at action 0) where
-    pub replaced-invalid : leaf_in t leaf ≡ true → length action ≡ 20 → valid_of x ≡ false → Replaced (Refused 1) out
+    pub replaced_invalid : leaf_in t leaf ≡ true → length action ≡ 20 → valid_of x ≡ false → Replaced (Refused 1) out
     unfolding replaced_for looks_after
-    replaced-invalid h e v =
+    replaced_invalid h e v =
         let w : valid_of (action_at action 0) ≡ false = ap valid_of (sym read) ∙ v in
         rw (h, eq-eqb (length action) 20 e, w) (refl, refl)
 
-    pub changed-grown : {u : RuleTree} → grown_of t ≡ true → leaf_in t leaf ≡ true → valid_of x ≡ true → u ≡ with_action t leaf x → grown_of u ≡ true
-    changed-grown g h v e = ap grown_of e ∙ action-grown t leaf x g h v
+    pub changed_grown : {u : RuleTree} → grown_of t ≡ true → leaf_in t leaf ≡ true → valid_of x ≡ true → u ≡ with_action t leaf x → grown_of u ≡ true
+    changed_grown g h v e = ap grown_of e ∙ action_grown t leaf x g h v
 
-    sized-for : leaf_in t leaf ≡ true → length action ≡ 20 → valid_of x ≡ true → sized points out ≡ replaced_for t leaf action points out
+    sized_for : leaf_in t leaf ≡ true → length action ≡ 20 → valid_of x ≡ true → sized points out ≡ replaced_for t leaf action points out
     unfolding replaced_for
-    sized-for h e v =
+    sized_for h e v =
         let w : valid_of (action_at action 0) ≡ true = ap valid_of (sym read) ∙ v in
         rw (h, eq-eqb (length action) 20 e, w)
 
-    pub replaced-taken : {u : RuleTree} {r : Saved} {l : List ℕ} → grown_of t ≡ true → leaf_in t leaf ≡ true → length action ≡ 20 → valid_of x ≡ true
+    pub replaced_taken : {u : RuleTree} {r : Saved} {l : List ℕ} → grown_of t ≡ true → leaf_in t leaf ≡ true → length action ≡ 20 → valid_of x ≡ true
         → u ≡ with_action t leaf x → Looks (found_in u) points out r l → Replaced r l
-    replaced-taken {u} g h e v eu p =
-        let s = sized-for h e v in
+    replaced_taken {u} g h e v eu p =
+        let s = sized_for h e v in
         let same = eu ∙ ap (with_action t leaf) read in (
           p.0 ∙ s,
           p.1 ∙ ap (λ (z : RuleTree). looks_after (found_in z) points out (sized points out)) same
@@ -244,17 +240,17 @@ unfolding replaced_in looks_after
 replaced_out a leaf action points out n = rw (ne_eqb a.refused 0 n) (refl, refl)
 
 module _ (held : List ℕ) (leaf : ℕ) (action points out : List ℕ) (a : Answered) (loaded : a ≡ load_of held) where
-  replaced-as : {r : Saved} {l : List ℕ}
+  replaced_as : {r : Saved} {l : List ℕ}
       → (r ≡ replaced_in a leaf action points out) × (l ≡ looks_after (replaced_look a.trainer.tree leaf action) points out (replaced_in a leaf action points out))
       → (r ≡ replaced held leaf action points out) × (l ≡ replaced_after held leaf action points out)
-  replaced-as p = (
+  replaced_as p = (
     p.0 ∙ ap (λ (z : Answered). replaced_in z leaf action points out) loaded,
     p.1 ∙ ap (λ (z : Answered). looks_after (replaced_look z.trainer.tree leaf action) points out (replaced_in z leaf action points out)) loaded,
   )
 
-  pub call-taken : {r : Saved} {l : List ℕ} → a.refused ≡ 0 → Replaced a.trainer.tree leaf action points out r l
+  pub call_taken : {r : Saved} {l : List ℕ} → a.refused ≡ 0 → Replaced a.trainer.tree leaf action points out r l
       → (r ≡ replaced held leaf action points out) × (l ≡ replaced_after held leaf action points out)
-  call-taken e p = replaced-as (replaced_in_lem a leaf action points out e p)
+  call_taken e p = replaced_as (replaced_in_lem a leaf action points out e p)
 
-  pub call-refused : (a.refused ≡ 0 → ⊥) → (Refused a.refused ≡ replaced held leaf action points out) × (out ≡ replaced_after held leaf action points out)
-  call-refused n = replaced-as (replaced_out a leaf action points out n)
+  pub call_refused : (a.refused ≡ 0 → ⊥) → (Refused a.refused ≡ replaced held leaf action points out) × (out ≡ replaced_after held leaf action points out)
+  call_refused n = replaced_as (replaced_out a leaf action points out n)

@@ -2,7 +2,7 @@
 use mathlib.Core.Path.{◌≡◌, refl, ap, ◌∙◌}
 use mathlib.Core.Bool.{Bool, true, false, cond}
 use mathlib.Core.List.{List, [], ◌∷◌, ◌++◌}
-use Prim.Native.Nat.{ℕ, ◌+◌, ◌<◌, ◌≤◌}
+use Prim.Native.Nat.{ℕ, ◌<◌, ◌≤◌}
 use native.Mathlib.Omega.{arith}
 use borrow.Author.Tests.{eq-eqb, ne_eqb, le-leb, lt-leb}
 use lib.Dec.{leb}
@@ -31,23 +31,23 @@ pub fields_count : (kind leaf : ℕ) (a : Action) (x : Float) → length (questi
 fields_count kind leaf a x = simp (length-append, bytes_count)
 
 module _ (out : List ℕ) (kind leaf : ℕ) (a : Action) (x : Float) where
-  pub fields-short : length out < 31 → (Refused 9 ≡ fields_fit out) × (out ≡ fields_after (question_fields kind leaf a x) out)
-  fields-short l = rw (lt-leb 31 (length out) l) (refl, refl)
+  pub fields_short : length out < 31 → (Refused 9 ≡ fields_fit out) × (out ≡ fields_after (question_fields kind leaf a x) out)
+  fields_short l = rw (lt-leb 31 (length out) l) (refl, refl)
 
-  fields-stored : (b : ℕ) {l1 l2 l3 : List ℕ} → b ≡ to_bits binary64 x → l1 ≡ sets (set out 0 kind) 1 (bytes_of 2 leaf)
+  fields_stored : (b : ℕ) {l1 l2 l3 : List ℕ} → b ≡ to_bits binary64 x → l1 ≡ sets (set out 0 kind) 1 (bytes_of 2 leaf)
       → l2 ≡ sets l1 3 (action_bytes a) → l3 ≡ sets l2 23 (bytes_of 8 b) → l3 ≡ sets out 0 (question_fields kind leaf a x)
-  fields-stored b e p q r =
+  fields_stored b e p q r =
       four out 0 (kind ∷ []) (bytes_of 2 leaf) (action_bytes a) 1 3 {l1 = set out 0 kind} (bytes_of 8 b) 23 refl p q r
       refl (simp bytes_count) (simp (length-append, bytes_count))
       ∙ ap (λ (k : ℕ). sets out 0 (kind ∷ (bytes_of 2 leaf ++ (action_bytes a ++ bytes_of 8 k)))) e
 
-  pub fields-written : (b : ℕ) {l1 l2 l3 : List ℕ} → 31 ≤ length out → b ≡ to_bits binary64 x → l1 ≡ sets (set out 0 kind) 1 (bytes_of 2 leaf)
+  pub fields_written : (b : ℕ) {l1 l2 l3 : List ℕ} → 31 ≤ length out → b ≡ to_bits binary64 x → l1 ≡ sets (set out 0 kind) 1 (bytes_of 2 leaf)
       → l2 ≡ sets l1 3 (action_bytes a) → l3 ≡ sets l2 23 (bytes_of 8 b)
       → (Size 31 ≡ fields_fit out) × (l3 ≡ fields_after (question_fields kind leaf a x) out)
-  fields-written b h e p q r =
+  fields_written b h e p q r =
       let c = fields_count kind leaf a x in
       rw (le-leb 31 (length out) h)
-      (refl, stored out (question_fields kind leaf a x) (omega arith) (fields-stored b e p q r) ∙ ap (λ (k : ℕ). question_fields kind leaf a x ++ drop k out) c)
+      (refl, stored out (question_fields kind leaf a x) (omega arith) (fields_stored b e p q r) ∙ ap (λ (k : ℕ). question_fields kind leaf a x ++ drop k out) c)
 
 -- ---- the kinds of question
 put_some : (b : Bool) (q : Question) (out : List ℕ)
@@ -60,9 +60,9 @@ abbrev Put : Question → List ℕ → Saved → List ℕ → Type 0
 Put q out r l = (r ≡ fitted q out) × (l ≡ question_put q out (fitted q out))
 
 module _ (out : List ℕ) {q : Question} {r : Saved} {l : List ℕ} (x : Float) where
-  pub put-counts : {a : Action} → q ≡ question.Counts x → a ≡ no_action → (r ≡ fields_fit out) × (l ≡ fields_after (question_fields 1 0 a x) out) → Put q out r l
+  pub put_counts : {a : Action} → q ≡ question.Counts x → a ≡ no_action → (r ≡ fields_fit out) × (l ≡ fields_after (question_fields 1 0 a x) out) → Put q out r l
   unfolding fitted question_bytes
-  put-counts e f p =
+  put_counts e f p =
       rw e
       (p.0, p.1 ∙ ap (λ (z : Action). fields_after (question_fields 1 0 z x) out) f ∙ put_some (leb 31 (length out)) (question.Counts x) out)
 
@@ -72,9 +72,9 @@ module _ (out : List ℕ) {q : Question} {r : Saved} {l : List ℕ} (x : Float) 
       rw e
       (p.0, p.1 ∙ ap (λ (z : Action). fields_after (question_fields 3 0 z x) out) f ∙ put_some (leb 31 (length out)) (question.Done x) out)
 
-  pub put-score : (i : ℕ) (a : Action) → q ≡ question.Score i a x → (r ≡ fields_fit out) × (l ≡ fields_after (question_fields 2 i a x) out) → Put q out r l
+  pub put_score : (i : ℕ) (a : Action) → q ≡ question.Score i a x → (r ≡ fields_fit out) × (l ≡ fields_after (question_fields 2 i a x) out) → Put q out r l
   unfolding fitted question_bytes
-  put-score i a e p = rw e (p.0, p.1 ∙ put_some (leb 31 (length out)) (question.Score i a x) out)
+  put_score i a e p = rw e (p.0, p.1 ∙ put_some (leb 31 (length out)) (question.Score i a x) out)
 
 pub put_refused : (out : List ℕ) {q : Question} (k : ℕ) → q ≡ question.Refused k → Put q out (Refused k) out
 unfolding fitted question_put
@@ -90,16 +90,16 @@ module _ (a : Answered) (out : List ℕ) where
   abbrev Asked : Saved → List ℕ → Type 0
   Asked r l = (r ≡ question_in a out) × (l ≡ question_after a out (question_in a out))
 
-  pub asked-taken : {q : Question} {r : Saved} {l : List ℕ} → a.refused ≡ 0 → q ≡ question_of a.trainer
+  pub asked_taken : {q : Question} {r : Saved} {l : List ℕ} → a.refused ≡ 0 → q ≡ question_of a.trainer
       → (r ≡ fitted q out) × (l ≡ question_put q out (fitted q out)) → Asked r l
   unfolding question_in
-  asked-taken {q} e f p =
+  asked_taken {q} e f p =
       rw (eq-eqb a.refused 0 e)
       (p.0 ∙ ap (λ (z : Question). fitted z out) f, p.1 ∙ ap (λ (z : Question). question_put z out (fitted z out)) f ∙ put_after a out (fitted (question_of a.trainer) out))
 
-  pub asked-refused : (a.refused ≡ 0 → ⊥) → Asked (Refused a.refused) out
+  pub asked_refused : (a.refused ≡ 0 → ⊥) → Asked (Refused a.refused) out
   unfolding question_in question_after
-  asked-refused n = rw (ne_eqb a.refused 0 n) (refl, refl)
+  asked_refused n = rw (ne_eqb a.refused 0 n) (refl, refl)
 
 -- the trainer is the one that the record gives
 pub asked_as : (held : List ℕ) {a : Answered} (out : List ℕ) {r : Saved} {l : List ℕ} → a ≡ load_of held

@@ -30,15 +30,15 @@ use Rattle.host_trainer.specs.Parts.{count_of}
 
 -- ---- the record after a call
 module _ (a : Answered) (out : List ℕ) where
-  pub written-taken : {r : Saved} {l : List ℕ} → a.refused ≡ 0
+  pub written_taken : {r : Saved} {l : List ℕ} → a.refused ≡ 0
       → (r ≡ save_of a.trainer out) × (l ≡ buffer_after a.trainer out (save_of a.trainer out))
       → (r ≡ written_of a out) × (l ≡ record_after a out)
   unfolding written_of record_after
-  written-taken e p = rw (eq-eqb a.refused 0 e) p
+  written_taken e p = rw (eq-eqb a.refused 0 e) p
 
-  pub written-refused : (a.refused ≡ 0 → ⊥) → (Refused a.refused ≡ written_of a out) × (out ≡ record_after a out)
+  pub written_refused : (a.refused ≡ 0 → ⊥) → (Refused a.refused ≡ written_of a out) × (out ≡ record_after a out)
   unfolding written_of record_after buffer_after
-  written-refused n = rw (ne_eqb a.refused 0 n) (refl, refl)
+  written_refused n = rw (ne_eqb a.refused 0 n) (refl, refl)
 
 -- the answer of a call is the one that the definition gives
 pub written_as : {a b : Answered} (out : List ℕ) {r : Saved} {l : List ℕ} → a ≡ b
@@ -56,13 +56,13 @@ module _ (bytes : List ℕ) {r : Answered} where
       let d : leb (get_or bytes 12 0) 1 ≡ true = ap (λ (k : ℕ). leb k 1) (sym e) ∙ le-leb b 1 l in
       rw (eq-eqb (length bytes) 137 long, d) (q ∙ ap start_of p)
 
-  pub start-other : (length bytes ≡ 137 → ⊥) → r ≡ refuse 2 blank_trainer → r ≡ start_in bytes
+  pub start_other : (length bytes ≡ 137 → ⊥) → r ≡ refuse 2 blank_trainer → r ≡ start_in bytes
   unfolding start_in settings_whole
-  start-other n q = rw (ne_eqb (length bytes) 137 n) q
+  start_other n q = rw (ne_eqb (length bytes) 137 n) q
 
-  pub start-drill : {b : ℕ} → length bytes ≡ 137 → b ≡ get_or bytes 12 0 → 1 < b → r ≡ refuse 2 blank_trainer → r ≡ start_in bytes
+  pub start_drill : {b : ℕ} → length bytes ≡ 137 → b ≡ get_or bytes 12 0 → 1 < b → r ≡ refuse 2 blank_trainer → r ≡ start_in bytes
   unfolding start_in settings_whole
-  start-drill {b} long e l q =
+  start_drill {b} long e l q =
       let d : leb (get_or bytes 12 0) 1 ≡ false = ap (λ (k : ℕ). leb k 1) (sym e) ∙ lt-leb b 1 l in
       rw (eq-eqb (length bytes) 137 long, d) q
 
@@ -80,31 +80,31 @@ module _ (held : List ℕ) (a : Answered) (loaded : a ≡ load_of held) where
     abbrev scoring : Trainer → Answered
     scoring t = answer_score_of t (of_bits binary64 bits)
 
-    pub score-taken : {x : Float} {r : Answered} → a.refused ≡ 0 → x ≡ of_bits binary64 bits → r ≡ answer_score_of a.trainer x → r ≡ score_answered held bits
+    pub score_taken : {x : Float} {r : Answered} → a.refused ≡ 0 → x ≡ of_bits binary64 bits → r ≡ answer_score_of a.trainer x → r ≡ score_answered held bits
     unfolding score_answered
-    score-taken e p q = q ∙ ap (answer_score_of a.trainer) p ∙ on_taken a scoring e ∙ ap (λ (z : Answered). on_trainer z scoring) loaded
+    score_taken e p q = q ∙ ap (answer_score_of a.trainer) p ∙ on_taken a scoring e ∙ ap (λ (z : Answered). on_trainer z scoring) loaded
 
-    pub score-refused : (a.refused ≡ 0 → ⊥) → a ≡ score_answered held bits
+    pub score_refused : (a.refused ≡ 0 → ⊥) → a ≡ score_answered held bits
     unfolding score_answered
-    score-refused n = on_refused a scoring n ∙ ap (λ (z : Answered). on_trainer z scoring) loaded
+    score_refused n = on_refused a scoring n ∙ ap (λ (z : Answered). on_trainer z scoring) loaded
 
   module _ (counts : List ℕ) where
     abbrev counting : Trainer → Answered
     counting t = answer_counts_of t (counts_in counts)
 
-    pub counts-taken : {xs : List ℕ} {r : Answered} → a.refused ≡ 0 → xs ≡ counts_in counts → r ≡ answer_counts_of a.trainer xs → r ≡ counts_answered held counts
+    pub counts_taken_lem : {xs : List ℕ} {r : Answered} → a.refused ≡ 0 → xs ≡ counts_in counts → r ≡ answer_counts_of a.trainer xs → r ≡ counts_answered held counts
     unfolding counts_answered
-    counts-taken e p q = q ∙ ap (answer_counts_of a.trainer) p ∙ on_taken a counting e ∙ ap (λ (z : Answered). on_trainer z counting) loaded
+    counts_taken_lem e p q = q ∙ ap (answer_counts_of a.trainer) p ∙ on_taken a counting e ∙ ap (λ (z : Answered). on_trainer z counting) loaded
 
-    pub counts-refused : (a.refused ≡ 0 → ⊥) → a ≡ counts_answered held counts
+    pub counts_refused : (a.refused ≡ 0 → ⊥) → a ≡ counts_answered held counts
     unfolding counts_answered
-    counts-refused n = on_refused a counting n ∙ ap (λ (z : Answered). on_trainer z counting) loaded
+    counts_refused n = on_refused a counting n ∙ ap (λ (z : Answered). on_trainer z counting) loaded
 
 -- ---- how many counts
 module _ (bytes : List ℕ) where
-  pub count-whole : length bytes % 8 ≡ 0 → length bytes ≤ 4104 → length bytes / 8 ≡ count_of bytes
+  pub count_whole : length bytes % 8 ≡ 0 → length bytes ≤ 4104 → length bytes / 8 ≡ count_of bytes
   unfolding count_of
-  count-whole e l = rw (eq-eqb (length bytes % 8) 0 e, le-leb (length bytes) 4104 l)
+  count_whole e l = rw (eq-eqb (length bytes % 8) 0 e, le-leb (length bytes) 4104 l)
 
   pub count_cut : (length bytes % 8 ≡ 0 → ⊥) → 0 ≡ count_of bytes
   unfolding count_of

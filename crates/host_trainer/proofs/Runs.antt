@@ -89,15 +89,15 @@ module _ (t : Trainer) (a : accepted_of t ≡ true) (f : TrainerFits t) where
   still : Held t
   still = record { accepted = a; whole = f.tree.full }
 
-  answer-accepted : (x : Answer) → accepted_of (value_answer t x).trainer ≡ true
+  answer_accepted : (x : Answer) → accepted_of (value_answer t x).trainer ≡ true
   unfolding value_answer
-  answer-accepted (counts xs) = (counts_held t (counts_in xs) still).accepted
-  answer-accepted (score bits) = (score_held t (of_bits binary64 bits) still).accepted
+  answer_accepted (counts xs) = (counts_held t (counts_in xs) still).accepted
+  answer_accepted (score bits) = (score_held t (of_bits binary64 bits) still).accepted
 
-  answer-fits : (x : Answer) → TrainerFits (value_answer t x).trainer
+  answer_fits : (x : Answer) → TrainerFits (value_answer t x).trainer
   unfolding value_answer
-  answer-fits (counts xs) = counted_fits t (counts_in xs) f (counts_held t (counts_in xs) still).accepted
-  answer-fits (score bits) =
+  answer_fits (counts xs) = counted_fits t (counts_in xs) f (counts_held t (counts_in xs) still).accepted
+  answer_fits (score bits) =
       scored_fits t (of_bits binary64 bits) f (of_bits-fits binary64 bits) a (score_held t (of_bits binary64 bits) still).accepted
 
 -- what a host and a program have after one answer
@@ -111,9 +111,9 @@ module _ (held : List ℕ) (t : Trainer) (h : Holds held t) (a : Answered) (out 
   next_refused n = let b = ne_eqb a.refused 0 n in record { number = rw b; holds = rw b h }
 
   module _ (e : a.refused ≡ 0) (ok : accepted_of a.trainer ≡ true) where
-    next-short : leb (length (record_of a.trainer)) (length out) ≡ false → Next held t a out
+    next_short : leb (length (record_of a.trainer)) (length out) ≡ false → Next held t a out
     unfolding written_of value_taken save_of number_of held_after
-    next-short l = let b = eq-eqb a.refused 0 e in record { number = rw (b, ok, l); holds = rw (b, ok, l) h }
+    next_short l = let b = eq-eqb a.refused 0 e in record { number = rw (b, ok, l); holds = rw (b, ok, l) h }
 
     size_is : leb (length (record_of a.trainer)) (length out) ≡ true → written_of a out ≡ Size (length (record_of a.trainer))
     unfolding written_of save_of
@@ -123,9 +123,9 @@ module _ (held : List ℕ) (t : Trainer) (h : Holds held t) (a : Answered) (out 
     unfolding value_taken
     value-is l = rw (eq-eqb a.refused 0 e, l)
 
-    next-taken : TrainerFits a.trainer → leb (length (record_of a.trainer)) (length out) ≡ true → Next held t a out
+    next_taken : TrainerFits a.trainer → leb (length (record_of a.trainer)) (length out) ≡ true → Next held t a out
     unfolding number_of held_after
-    next-taken f l =
+    next_taken f l =
         let s = size_is l in
         let v = value-is l in
         let n = length (record_of a.trainer) in
@@ -144,8 +144,8 @@ module _ (held : List ℕ) (t : Trainer) (h : Holds held t) (a : Answered) (out 
   next ok f = go (eqb a.refused 0) (leb (length (record_of a.trainer)) (length out)) refl refl
     where
       go : (b c : Bool) → eqb a.refused 0 ≡ b → leb (length (record_of a.trainer)) (length out) ≡ c → Next held t a out
-      go true true p q = next-taken (eqb-true a.refused 0 p) ok f q
-      go true false p q = next-short (eqb-true a.refused 0 p) ok q
+      go true true p q = next_taken (eqb-true a.refused 0 p) ok f q
+      go true false p q = next_short (eqb-true a.refused 0 p) ok q
       go false c p q = next_refused (eqb-false a.refused 0 p)
 
 -- ---- the question
@@ -174,26 +174,26 @@ module _ (held : List ℕ) (t : Trainer) (h : Holds held t) (c : Call) where
       let ok = (load_again held t h.loads).accepted in
       let same = answer_same held t c.answer h.loads in
       next held t h (host_answer held c.answer) c.out
-      (subst (λ (z : Answered). accepted_of z.trainer ≡ true) (sym same) (answer-accepted t ok h.fits c.answer))
-      (subst (λ (z : Answered). TrainerFits z.trainer) (sym same) (answer-fits t ok h.fits c.answer))
+      (subst (λ (z : Answered). accepted_of z.trainer ≡ true) (sym same) (answer_accepted t ok h.fits c.answer))
+      (subst (λ (z : Answered). TrainerFits z.trainer) (sym same) (answer_fits t ok h.fits c.answer))
 
   value_same : value_taken t (host_answer held c.answer) c.out ≡ value_call t c
   value_same = ap (λ (z : Answered). value_taken t z c.out) (answer_same held t c.answer h.loads)
 
-  pub call-holds : Holds (host_next held c) (value_call t c).trainer
-  call-holds = subst (λ (z : Answered). Holds (host_next held c) z.trainer) value_same call_next.holds
+  pub call_holds : Holds (host_next held c) (value_call t c).trainer
+  call_holds = subst (λ (z : Answered). Holds (host_next held c) z.trainer) value_same call_next.holds
 
-  pub call-seen : host_sees held c ≡ value_sees t c
-  call-seen =
-      let q = question_same (host_next held c) (value_call t c).trainer c.asks call-holds.loads in
+  pub call_seen : host_sees held c ≡ value_sees t c
+  call_seen =
+      let q = question_same (host_next held c) (value_call t c).trainer c.asks call_holds.loads in
       seen_same (host_sees held c) (value_sees t c) (call_next.number ∙ ap (λ (z : Answered). z.refused) value_same) q.0 q.1
 
 pub run_same : (held : List ℕ) (t : Trainer) (cs : List Call) → Holds held t → host_run held cs ≡ value_run t cs
 unfolding host_run value_run
 run_same held t [] h = refl
 run_same held t (c ∷ cs) h =
-    ap (λ (z : Seen). z ∷ host_run (host_next held c) cs) (call-seen held t h c)
-    ∙ ap (λ (zs : List Seen). value_sees t c ∷ zs) (run_same (host_next held c) (value_call t c).trainer cs (call-holds held t h c))
+    ap (λ (z : Seen). z ∷ host_run (host_next held c) cs) (call_seen held t h c)
+    ∙ ap (λ (zs : List Seen). value_sees t c ∷ zs) (run_same (host_next held c) (value_call t c).trainer cs (call_holds held t h c))
 
 -- so from every record that loads: bytes below 256 are all that is asked of it
 pub record_same : (held : List ℕ) (t : Trainer) (cs : List Call) → Bytes held → load_of held ≡ taken t → host_run held cs ≡ value_run t cs

@@ -19,16 +19,16 @@ use Rattle.rule_tree.specs.Grown.{grown_of}
 use Rattle.rule_tree.specs.Change.{undone}
 use Rattle.rule_tree.specs.Calls.{leaf_in}
 use Rattle.rule_tree.proofs.GrownTree.{leaf_childless, leaf_from}
-use Rattle.rule_tree.proofs.Undoing.{newest-children, undo-other, undo-splits, undo-ends, undo-grown}
-use Rattle.rule_tree_laws.proofs.Undone.{undo-fits}
+use Rattle.rule_tree.proofs.Undoing.{newest_children, undo_other, undo_splits, undo_ends, undo_grown}
+use Rattle.rule_tree_laws.proofs.Undone.{undo_fits}
 use Rattle.trainer.specs.declared.Trainer.{Trainer}
 use Rattle.trainer.specs.declared.Answered.{Answered}
 use Rattle.trainer.specs.Settings.{settings_hold}
 use Rattle.trainer.specs.Candidates.{candidates_of}
 use Rattle.trainer.specs.State.{splitting, tuning, ending, idle, untried, kept_holds, leaf_holds, try_holds_of, box_holds, phase_holds, accepted_of}
 use Rattle.trainer.specs.Phases.{taken}
-use Rattle.trainer.proofs.AcceptWays.{phase_is, accepted-all}
-use Rattle.trainer.proofs.AcceptedFacts.{accepted-settings, accepted-box, accepted-phase}
+use Rattle.trainer.proofs.AcceptWays.{phase_is, accepted_all}
+use Rattle.trainer.proofs.AcceptedFacts.{accepted_settings, accepted_box, accepted_phase}
 use Rattle.record.specs.declared.Saved.TheVariants.{Size, Refused}
 use Rattle.record.specs.Write.{record_of}
 use Rattle.record.specs.Calls.{save_of, load_of}
@@ -36,7 +36,7 @@ use Rattle.wire.proofs.Bytes.{never}
 use Rattle.record.proofs.RoundTrip.{TrainerFits}
 use Rattle.record.proofs.NumbersAgain.{Bytes}
 use Rattle.record.proofs.BytesFit.{loaded_fits}
-use Rattle.record.proofs.Loading.{accepted-grown, load_again, load_saved}
+use Rattle.record.proofs.Loading.{accepted_grown, load_again, load_saved}
 use Rattle.host_trainer.specs.Records.{on_trainer, written_of}
 use Rattle.host_trainer.specs.Undone.{with_tree, leaf_stays, undone_trainer, undone_in}
 
@@ -87,7 +87,7 @@ left t = with_tree t (undone t.tree)
 
 module _ (t : Trainer) (f : TrainerFits t) (a : accepted_of t ≡ true) (s : 0 < t.tree.splits) (stays : leaf_stays t ≡ true) where
   g : grown_of t.tree ≡ true
-  g = accepted-grown t a
+  g = accepted_grown t a
 
   full : length t.tree.nodes ≡ 513
   full = f.tree.full
@@ -95,43 +95,43 @@ module _ (t : Trainer) (f : TrainerFits t) (a : accepted_of t ≡ true) (s : 0 <
   before : t.leaf + 8 < node_count t.tree.splits
   before = ltb-true (t.leaf + 8) (node_count t.tree.splits) stays
 
-  leaf-same : leaf_in t.tree t.leaf ≡ true → node_at_of (undone t.tree).nodes t.leaf ≡ node_at_of t.tree.nodes t.leaf
-  leaf-same l =
-      undo-other t.tree full g s t.leaf
+  leaf_same : leaf_in t.tree t.leaf ≡ true → node_at_of (undone t.tree).nodes t.leaf ≡ node_at_of t.tree.nodes t.leaf
+  leaf_same l =
+      undo_other t.tree full g s t.leaf
       (λ e.
       let c = leaf_childless t.tree t.leaf l in
-      let n = newest-children t.tree full g s in
+      let n = newest_children t.tree full g s in
       let m = ap (λ (i : ℕ). (node_at_of t.tree.nodes i).children) e in
       absurd (omega (arith, c, n, m)))
       (inl (omega (arith, before)))
 
-  leaf-stays : leaf_in t.tree t.leaf ≡ true → leaf_in (undone t.tree) t.leaf ≡ true
-  leaf-stays l =
-      leaf_from (undone t.tree) t.leaf (omega (arith, before, undo-splits t.tree))
-      (ap (λ (x : Node). x.children) (leaf-same l) ∙ leaf_childless t.tree t.leaf l)
+  leaf_stays_lem : leaf_in t.tree t.leaf ≡ true → leaf_in (undone t.tree) t.leaf ≡ true
+  leaf_stays_lem l =
+      leaf_from (undone t.tree) t.leaf (omega (arith, before, undo_splits t.tree))
+      (ap (λ (x : Node). x.children) (leaf_same l) ∙ leaf_childless t.tree t.leaf l)
 
-  box-stays : box_holds (left t) ≡ true
+  box_stays : box_holds (left t) ≡ true
   unfolding box_holds
-  box-stays = ap (λ (e : Point). point_equal e t.settings.ends) (undo-ends t.tree) ∙ accepted-box t a
+  box_stays = ap (λ (e : Point). point_equal e t.settings.ends) (undo_ends t.tree) ∙ accepted_box t a
 
-  phase-stays : phase_holds (left t) ≡ true
-  phase-stays =
+  phase_stays : phase_holds (left t) ≡ true
+  phase_stays =
       held_is t (undone t.tree)
       ∙ still_held t (node_at_of t.tree.nodes t.leaf) (node_at_of (undone t.tree).nodes t.leaf) (leaf_in t.tree t.leaf) (leaf_in (undone t.tree) t.leaf)
-      leaf-stays leaf-same (sym (held_is t t.tree) ∙ phase_is t ∙ accepted-phase t a)
+      leaf_stays_lem leaf_same (sym (held_is t t.tree) ∙ phase_is t ∙ accepted_phase t a)
 
-  pub undone-accepted : accepted_of (left t) ≡ true
-  undone-accepted =
+  pub undone_accepted : accepted_of (left t) ≡ true
+  undone_accepted =
       sym
-      (accepted-all (left t) (settings_hold t.settings) (grown_of (undone t.tree)) (box_holds (left t)) (phase_holds (left t)) refl (accepted-settings t a)
-      refl (undo-grown t.tree full g s) refl box-stays refl)
-      ∙ phase-stays
+      (accepted_all (left t) (settings_hold t.settings) (grown_of (undone t.tree)) (box_holds (left t)) (phase_holds (left t)) refl (accepted_settings t a)
+      refl (undo_grown t.tree full g s) refl box_stays refl)
+      ∙ phase_stays
 
-  undone-fits : TrainerFits (left t)
-  undone-fits =
+  undone_fits : TrainerFits (left t)
+  undone_fits =
       record {
         settings = f.settings;
-        tree = undo-fits t.tree f.tree g s;
+        tree = undo_fits t.tree f.tree g s;
         stage = f.stage;
         round = f.round;
         leaf = f.leaf;
@@ -142,8 +142,8 @@ module _ (t : Trainer) (f : TrainerFits t) (a : accepted_of t ≡ true) (s : 0 <
       }
 
   -- what is written loads as the trainer with the newest split taken back
-  pub undone-loads : load_of (record_of (left t)) ≡ taken (left t)
-  undone-loads = load_saved (left t) undone-fits undone-accepted
+  pub undone_loads : load_of (record_of (left t)) ≡ taken (left t)
+  undone_loads = load_saved (left t) undone_fits undone_accepted
 
 -- ---- the call: 6, 7, 8 of the record; then 24, 3, 9
 save_sized : (t : Trainer) (out : List ℕ) → accepted_of t ≡ true
@@ -152,17 +152,17 @@ unfolding save_of
 save_sized t out a = rw a
 
 module _ (held out : List ℕ) (t : Trainer) (bytes : Bytes held) (loaded : load_of held ≡ taken t) where
-  pub undo-order :
+  pub undo_order_lem :
       written_of (undone_in held) out
       ≡ guarded (test (ltb 0 t.tree.splits) 24 ∷ test (leaf_stays t) 3 ∷ test (leb (length (record_of (left t))) (length out)) 9 ∷ []) Refused (Size (length (record_of (left t))))
   unfolding undone_in on_trainer written_of undone_trainer
-  undo-order = ap (λ (z : Answered). written_of (on_trainer z undone_trainer) out) loaded ∙ by (ltb 0 t.tree.splits) refl (leaf_stays t) refl
+  undo_order_lem = ap (λ (z : Answered). written_of (on_trainer z undone_trainer) out) loaded ∙ by (ltb 0 t.tree.splits) refl (leaf_stays t) refl
     where
       a : accepted_of t ≡ true
       a = (load_again held t loaded).accepted
 
       by : (x : Bool) → ltb 0 t.tree.splits ≡ x → (y : Bool) → leaf_stays t ≡ y
           → written_of (undone_trainer t) out ≡ cond x (cond y (cond (leb (length (record_of (left t))) (length out)) (Size (length (record_of (left t)))) (Refused 9)) (Refused 3)) (Refused 24)
-      by true p true q = rw (accepted-grown t a, p, q) (save_sized (left t) out (undone-accepted t (loaded_fits held t bytes loaded) a (ltb-true 0 t.tree.splits p) q))
-      by true p false q = rw (accepted-grown t a, p, q)
-      by false p y q = rw (accepted-grown t a, p)
+      by true p true q = rw (accepted_grown t a, p, q) (save_sized (left t) out (undone_accepted t (loaded_fits held t bytes loaded) a (ltb-true 0 t.tree.splits p) q))
+      by true p false q = rw (accepted_grown t a, p, q)
+      by false p y q = rw (accepted_grown t a, p)

@@ -20,10 +20,10 @@ use Rattle.host_trainer.proofs.RecordWays.{on_taken, on_refused}
 
 -- ---- the tree's call, and then the trainer's leaf
 module _ (t : Trainer) where
-  abbrev byCall : Changed → Answered
-  byCall c = cond (eqb c.refused 0) (cond (leaf_stays t) (taken (with_tree t c.tree)) (refuse 3 t)) (refuse c.refused t)
+  abbrev by_call_lem : Changed → Answered
+  by_call_lem c = cond (eqb c.refused 0) (cond (leaf_stays t) (taken (with_tree t c.tree)) (refuse 3 t)) (refuse c.refused t)
 
-  by_call : byCall (undo_of t.tree) ≡ undone_trainer t
+  by_call : by_call_lem (undo_of t.tree) ≡ undone_trainer t
   unfolding undo_of undone_trainer
   by_call = go (grown_of t.tree) (ltb 0 t.tree.splits)
     where
@@ -31,40 +31,40 @@ module _ (t : Trainer) where
       back = cond (leaf_stays t) (taken (with_tree t (undone t.tree))) (refuse 3 t)
 
       go : (g s : Bool)
-          → byCall (cond g (cond s (record { refused = 0; tree = undone t.tree }) (record { refused = 24; tree = t.tree })) (record { refused = 10; tree = t.tree }))
+          → by_call_lem (cond g (cond s (record { refused = 0; tree = undone t.tree }) (record { refused = 24; tree = t.tree })) (record { refused = 10; tree = t.tree }))
           ≡ cond g (cond s back (refuse 24 t)) (refuse 10 t)
       go true true = refl
       go true false = refl
       go false s = refl
 
   module _ (c : Changed) (called : c ≡ undo_of t.tree) where
-    back-taken : byCall c ≡ undone_trainer t
-    back-taken = ap byCall called ∙ by_call
+    back_taken : by_call_lem c ≡ undone_trainer t
+    back_taken = ap by_call_lem called ∙ by_call
 
-    stays-taken : c.refused ≡ 0 → t.leaf + 8 < node_count t.tree.splits → byCall c ≡ taken (with_tree t c.tree)
-    stays-taken e l = rw (eq-eqb c.refused 0 e, lt-ltb (t.leaf + 8) (node_count t.tree.splits) l)
+    stays_taken : c.refused ≡ 0 → t.leaf + 8 < node_count t.tree.splits → by_call_lem c ≡ taken (with_tree t c.tree)
+    stays_taken e l = rw (eq-eqb c.refused 0 e, lt-ltb (t.leaf + 8) (node_count t.tree.splits) l)
 
-    goes-refused : c.refused ≡ 0 → node_count t.tree.splits ≤ t.leaf + 8 → byCall c ≡ refuse 3 t
-    goes-refused e l = rw (eq-eqb c.refused 0 e, le-ltb (t.leaf + 8) (node_count t.tree.splits) l)
+    goes_refused : c.refused ≡ 0 → node_count t.tree.splits ≤ t.leaf + 8 → by_call_lem c ≡ refuse 3 t
+    goes_refused e l = rw (eq-eqb c.refused 0 e, le-ltb (t.leaf + 8) (node_count t.tree.splits) l)
 
-    tree-refused : (c.refused ≡ 0 → ⊥) → byCall c ≡ refuse c.refused t
-    tree-refused n = rw (ne_eqb c.refused 0 n)
+    tree_refused : (c.refused ≡ 0 → ⊥) → by_call_lem c ≡ refuse c.refused t
+    tree_refused n = rw (ne_eqb c.refused 0 n)
 
-    pub undo-taken : c.refused ≡ 0 → t.leaf + 8 < node_count t.tree.splits → taken (with_tree t c.tree) ≡ undone_trainer t
-    undo-taken e l = sym (stays-taken e l) ∙ back-taken
+    pub undo_taken : c.refused ≡ 0 → t.leaf + 8 < node_count t.tree.splits → taken (with_tree t c.tree) ≡ undone_trainer t
+    undo_taken e l = sym (stays_taken e l) ∙ back_taken
 
-    pub undo-gone : c.refused ≡ 0 → node_count t.tree.splits ≤ t.leaf + 8 → refuse 3 t ≡ undone_trainer t
-    undo-gone e l = sym (goes-refused e l) ∙ back-taken
+    pub undo_gone : c.refused ≡ 0 → node_count t.tree.splits ≤ t.leaf + 8 → refuse 3 t ≡ undone_trainer t
+    undo_gone e l = sym (goes_refused e l) ∙ back_taken
 
-    pub undo-refused : (c.refused ≡ 0 → ⊥) → refuse c.refused t ≡ undone_trainer t
-    undo-refused n = sym (tree-refused n) ∙ back-taken
+    pub undo_refused : (c.refused ≡ 0 → ⊥) → refuse c.refused t ≡ undone_trainer t
+    undo_refused n = sym (tree_refused n) ∙ back_taken
 
 -- ---- the trainer of a record
 module _ (held : List ℕ) (a : Answered) (loaded : a ≡ load_of held) where
-  pub record-undone : {r : Answered} → a.refused ≡ 0 → r ≡ undone_trainer a.trainer → r ≡ undone_in held
+  pub record_undone : {r : Answered} → a.refused ≡ 0 → r ≡ undone_trainer a.trainer → r ≡ undone_in held
   unfolding undone_in
-  record-undone e q = q ∙ on_taken a undone_trainer e ∙ ap (λ (z : Answered). on_trainer z undone_trainer) loaded
+  record_undone e q = q ∙ on_taken a undone_trainer e ∙ ap (λ (z : Answered). on_trainer z undone_trainer) loaded
 
-  pub record-refused : (a.refused ≡ 0 → ⊥) → a ≡ undone_in held
+  pub record_refused : (a.refused ≡ 0 → ⊥) → a ≡ undone_in held
   unfolding undone_in
-  record-refused n = on_refused a undone_trainer n ∙ ap (λ (z : Answered). on_trainer z undone_trainer) loaded
+  record_refused n = on_refused a undone_trainer n ∙ ap (λ (z : Answered). on_trainer z undone_trainer) loaded

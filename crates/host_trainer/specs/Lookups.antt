@@ -1,15 +1,12 @@
 -- Lookups of many points in the tree of a record's trainer, with or without one leaf's action replaced.
-use Rattle.std.specs.Prelude.{Bool, cond, List, [], ◌∷◌, ◌++◌, ℕ, zero, suc, ◌+◌, ◌*◌, ◌/◌, ◌%◌, length, drop, replicate, eqb, leb}
+use Rattle.std.specs.Prelude.{cond, List, [], ◌∷◌, ◌++◌, ℕ, zero, suc, ◌+◌, ◌*◌, ◌/◌, ◌%◌, length, drop, replicate, eqb, leb}
 use Rattle.refusal.specs.Numbers.{bad_length, no_leaf, not_admitted, short_buffer}
-use Rattle.remy.specs.declared.action.Action.{Action}
 use Rattle.remy.specs.declared.point.Point.{Point}
 use Rattle.remy.specs.Action.{valid_of}
 use Rattle.remy.specs.Cube.{point_of}
-use Rattle.rule_tree.specs.declared.RuleTree.{RuleTree}
 use Rattle.rule_tree.specs.declared.Looked.{Looked}
 use Rattle.rule_tree.specs.declared.Looked.TheVariants as looked
 use Rattle.rule_tree.specs.Calls.{leaf_in, lookup_of, replaced_of}
-use Rattle.trainer.specs.declared.Trainer.{Trainer}
 use Rattle.trainer.specs.declared.Answered.{Answered}
 use Rattle.record.specs.declared.Saved.{Saved}
 use Rattle.record.specs.declared.Saved.TheVariants.{Size, Refused}

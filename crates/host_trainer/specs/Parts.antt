@@ -57,11 +57,10 @@ pub record Ready (cs : List ℕ) (root : Cube) : Type 0 where
   pub links : T (links_hold cs 64)
   pub whole : Whole root
 
--- the leaf that a point reaches by these links, and the cubes tested on the way; node 0 and one cube for a point outside the root
+-- the leaf that a point reaches by these links; node 0 for a point outside the root
 unfoldable pub spot_of : List ℕ → Cube → Point → Spot
 spot_of cs root p =
-    cond (contains_of root p) (let w = walk_of cs root p in record { inside = true; node = w.node; tested = w.tested })
-    (record { inside = false; node = 0; tested = 1 })
+    cond (contains_of root p) (record { inside = true; node = (walk_of cs root p).node }) (record { inside = false; node = 0 })
 
 -- what it finds, a being that leaf's action
 unfoldable pub found_at : Bool → Action → Looked

@@ -1,5 +1,5 @@
 -- A trainer kept by its host as the bytes of its record: each call takes a record and writes the next one.
-use Rattle.std.specs.Prelude.{Bool, true, false, ◌&&◌, cond, List, [], ℕ, ◌*◌, ◌/◌, ◌%◌, length, get_or, eqb, leb}
+use Rattle.std.specs.Prelude.{Bool, ◌&&◌, cond, List, [], ℕ, ◌*◌, ◌/◌, ◌%◌, length, get_or, eqb, leb}
 use Rattle.std.specs.Float.{binary64}
 use Rattle.std.specs.Float.Ieee.{of_bits}
 use Rattle.refusal.specs.Numbers.{bad_settings}
@@ -10,7 +10,7 @@ use Rattle.trainer.specs.declared.settings.Settings.{Settings}
 use Rattle.trainer.specs.Phases.{refuse}
 use Rattle.trainer.specs.Calls.{blank_trainer, start_of, answer_counts_of, answer_score_of}
 use Rattle.record.specs.declared.Saved.{Saved}
-use Rattle.record.specs.declared.Saved.TheVariants.{Size, Refused}
+use Rattle.record.specs.declared.Saved.TheVariants.{Refused}
 use Rattle.wire.specs.Bytes.{number_at}
 use Rattle.record.specs.Layout.{layout_of}
 use Rattle.record.specs.Write.{version}

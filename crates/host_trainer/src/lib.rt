@@ -1,4 +1,6 @@
 // A trainer for hosts: its record in bytes goes in, the next record comes out.
+#![tactic(auto)]
+
 ghost use Rattle.std.specs.Prelude.{◌≡◌};
 ghost use Rattle.host_trainer.specs.Records.{start_in, score_answered, counts_answered, written_of, record_after};
 ghost use Rattle.host_trainer.specs.Questions.{asked_in_of, asked_after};

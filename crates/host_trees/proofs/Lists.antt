@@ -13,17 +13,17 @@ use Rattle.refusal.specs.Numbers.{bad_length, short_buffer}
 use Rattle.rule_tree.proofs.Owners.{below_or_not}
 use Rattle.record.specs.declared.Saved.{Saved}
 use Rattle.record.specs.declared.Saved.TheVariants as saved
-use Rattle.wire.specs.Bytes.{bytes_of, shorts_bytes, number_at}
+use Rattle.wire.specs.Bytes.{bytes_of, number_at}
 use Rattle.wire.proofs.Stores.{wrote}
 use Rattle.small_trees.specs.declared.SplitList.{SplitList}
 use Rattle.small_trees.specs.declared.After.{After}
 use Rattle.small_trees.specs.declared.After.TheVariants.{Next, Last, Refused}
 use Rattle.refusal.specs.Numbers.{no_split_list}
-use Rattle.small_trees.specs.Calls.{unpacked, next_of}
+use Rattle.small_trees.specs.Calls.{next_of}
 use Rattle.small_trees.proofs.Tables.{next_above}
 use Rattle.small_trees.proofs.Growing.{growth_short}
 use Rattle.small_trees.proofs.Ways.{refused}
-use Rattle.host_trees.specs.Lists.{nodes_from, list_at_of, list_whole, held_of, list_bytes, answered_in, answered_after, next_list_in, next_list_after}
+use Rattle.host_trees.specs.Lists.{nodes_from, list_at_of, list_whole, nodes_bytes, held_of, list_bytes, answered_in, answered_after, next_list_in, next_list_after}
 
 -- ---- the first n of three
 take_none : (n : ℕ) → ◌≡◌ {A = List ℕ} (take n []) []
@@ -60,12 +60,12 @@ module _ (a b c : ℕ) where
   firsts (suc (suc zero)) = a ∷ b ∷ []
   firsts (suc (suc (suc n))) = a ∷ b ∷ c ∷ []
 
-  taken-firsts : (n k : ℕ) → k ≡ length (take n (a ∷ b ∷ c ∷ [])) → take n (a ∷ b ∷ c ∷ []) ≡ firsts k
+  taken_firsts : (n k : ℕ) → k ≡ length (take n (a ∷ b ∷ c ∷ [])) → take n (a ∷ b ∷ c ∷ []) ≡ firsts k
   unfolding firsts
-  taken-firsts zero k e = ap firsts (sym e)
-  taken-firsts (suc zero) k e = ap firsts (sym e)
-  taken-firsts (suc (suc zero)) k e = ap firsts (sym e)
-  taken-firsts (suc (suc (suc n))) k e = all_three n ∙ ap firsts (sym (e ∙ ap length (all_three n)))
+  taken_firsts zero k e = ap firsts (sym e)
+  taken_firsts (suc zero) k e = ap firsts (sym e)
+  taken_firsts (suc (suc zero)) k e = ap firsts (sym e)
+  taken_firsts (suc (suc (suc n))) k e = all_three n ∙ ap firsts (sym (e ∙ ap length (all_three n)))
 
 pub held_few : (s : SplitList) → s.count < 3 → (s.count ≡ held_of s) × (s.count ≤ 3)
 held_few s l = (few s.first s.second s.third s.count l, omega arith)
@@ -84,26 +84,26 @@ nodes_count zero at bytes = refl
 nodes_count (suc k) at bytes = let e = nodes_count k (at + 2) bytes in omega arith
 
 module _ (n : ℕ) (bytes : List ℕ) (k : ℕ) (e : k ≡ get_or bytes 0 0) where
-  pub after-long : 3 < k → Refused no_split_list ≡ next_of n (list_at_of bytes)
-  after-long l =
+  pub after_long : 3 < k → Refused no_split_list ≡ next_of n (list_at_of bytes)
+  after_long l =
       let z : length (list_at_of bytes) ≡ k = nodes_count (get_or bytes 0 0) 1 bytes ∙ sym e in
       ⊎_elim (λ (m : n < 4). refused n (list_at_of bytes) (λ h. absurd (let q = growth_short n (list_at_of bytes) h in omega arith)))
       (λ (m : 4 ≤ n). sym (next_above n (list_at_of bytes) (omega arith)))
       (below_or_not n 4)
 
-  nodes-read : (j : ℕ) → j ≤ 3 → take j (number_at bytes 1 2 ∷ number_at bytes 3 2 ∷ number_at bytes 5 2 ∷ []) ≡ nodes_from j 1 bytes
+  nodes_read : (j : ℕ) → j ≤ 3 → take j (number_at bytes 1 2 ∷ number_at bytes 3 2 ∷ number_at bytes 5 2 ∷ []) ≡ nodes_from j 1 bytes
   unfolding nodes_from
-  nodes-read zero l = refl
-  nodes-read (suc zero) l = refl
-  nodes-read (suc (suc zero)) l = refl
-  nodes-read (suc (suc (suc zero))) l = refl
-  nodes-read (suc (suc (suc (suc j)))) l = absurd (omega arith)
+  nodes_read zero l = refl
+  nodes_read (suc zero) l = refl
+  nodes_read (suc (suc zero)) l = refl
+  nodes_read (suc (suc (suc zero))) l = refl
+  nodes_read (suc (suc (suc (suc j)))) l = absurd (omega arith)
 
   pub after_read : (a b c : ℕ) (r : After) → k ≤ 3 → a ≡ number_at bytes 1 2 → b ≡ number_at bytes 3 2 → c ≡ number_at bytes 5 2
       → r ≡ next_of n (take k (a ∷ b ∷ c ∷ [])) → r ≡ next_of n (list_at_of bytes)
   after_read a b c r l x y z q =
       q ∙ ap (λ (xs : List ℕ). next_of n (take k xs)) (λ i. x i ∷ y i ∷ z i ∷ [])
-      ∙ ap (next_of n) (nodes-read k l ∙ ap (λ (j : ℕ). nodes_from j 1 bytes) e)
+      ∙ ap (next_of n) (nodes_read k l ∙ ap (λ (j : ℕ). nodes_from j 1 bytes) e)
 
 -- ---- what is written
 three_left : (k : ℕ) → k ≤ 3 → (k ≡ 0 → ⊥) → (k ≡ 1 → ⊥) → (k ≡ 2 → ⊥) → k ≡ 3
@@ -113,39 +113,39 @@ three_left (suc (suc zero)) l x y z = absurd (z refl)
 three_left (suc (suc (suc k))) l x y z = omega arith
 
 module _ (l : List ℕ) (s : SplitList) (k : ℕ) (h : k ≡ held_of s) where
-  bytes-of : (j : ℕ) → k ≡ j → bytes_of 1 k ++ shorts_bytes (firsts s.first s.second s.third j) ≡ list_bytes s
-  bytes-of j e =
-      ap₂ (λ (i : ℕ) (xs : List ℕ). bytes_of 1 i ++ shorts_bytes xs) h
-      (sym (taken-firsts s.first s.second s.third s.count j (sym e ∙ h)))
+  bytes_of_lem : (j : ℕ) → k ≡ j → bytes_of 1 k ++ nodes_bytes (firsts s.first s.second s.third j) ≡ list_bytes s
+  bytes_of_lem j e =
+      ap₂ (λ (i : ℕ) (xs : List ℕ). bytes_of 1 i ++ nodes_bytes xs) h
+      (sym (taken_firsts s.first s.second s.third s.count j (sym e ∙ h)))
 
   pub put_none : (r : List ℕ) → k ≡ 0 → r ≡ sets l 0 (bytes_of 1 k) → r ≡ sets l 0 (list_bytes s)
-  unfolding bytes_of shorts_bytes firsts
-  put_none r e q = q ∙ ap (λ (z : List ℕ). sets l 0 z) (bytes-of 0 e)
+  unfolding bytes_of nodes_bytes firsts
+  put_none r e q = q ∙ ap (λ (z : List ℕ). sets l 0 z) (bytes_of_lem 0 e)
 
   module _ (m : List ℕ) (q : m ≡ sets l 0 (bytes_of 1 k)) where
-    first-put : (r : List ℕ) → r ≡ sets m 1 (bytes_of 2 s.first) → r ≡ sets l 0 (bytes_of 1 k ++ bytes_of 2 s.first)
+    first_put : (r : List ℕ) → r ≡ sets m 1 (bytes_of 2 s.first) → r ≡ sets l 0 (bytes_of 1 k ++ bytes_of 2 s.first)
     unfolding bytes_of
-    first-put r p = wrote l m 0 1 (bytes_of 1 k) (bytes_of 2 s.first) p q refl
+    first_put r p = wrote l m 0 1 (bytes_of 1 k) (bytes_of 2 s.first) p q refl
 
     pub put_one : (r : List ℕ) → k ≡ 1 → r ≡ sets m 1 (bytes_of 2 s.first) → r ≡ sets l 0 (list_bytes s)
-    unfolding bytes_of shorts_bytes firsts
-    put_one r e p = first-put r p ∙ ap (λ (z : List ℕ). sets l 0 z) (bytes-of 1 e)
+    unfolding bytes_of nodes_bytes firsts
+    put_one r e p = first_put r p ∙ ap (λ (z : List ℕ). sets l 0 z) (bytes_of_lem 1 e)
 
     module _ (o : List ℕ) (p : o ≡ sets m 1 (bytes_of 2 s.first)) where
-      second-put : (r : List ℕ) → r ≡ sets o 3 (bytes_of 2 s.second) → r ≡ sets l 0 ((bytes_of 1 k ++ bytes_of 2 s.first) ++ bytes_of 2 s.second)
+      second_put : (r : List ℕ) → r ≡ sets o 3 (bytes_of 2 s.second) → r ≡ sets l 0 ((bytes_of 1 k ++ bytes_of 2 s.first) ++ bytes_of 2 s.second)
       unfolding bytes_of
-      second-put r t = wrote l o 0 3 (bytes_of 1 k ++ bytes_of 2 s.first) (bytes_of 2 s.second) t (first-put o p) refl
+      second_put r t = wrote l o 0 3 (bytes_of 1 k ++ bytes_of 2 s.first) (bytes_of 2 s.second) t (first_put o p) refl
 
       pub put_two : (r : List ℕ) → k ≡ 2 → r ≡ sets o 3 (bytes_of 2 s.second) → r ≡ sets l 0 (list_bytes s)
-      unfolding bytes_of shorts_bytes firsts
-      put_two r e t = second-put r t ∙ ap (λ (z : List ℕ). sets l 0 z) (bytes-of 2 e)
+      unfolding bytes_of nodes_bytes firsts
+      put_two r e t = second_put r t ∙ ap (λ (z : List ℕ). sets l 0 z) (bytes_of_lem 2 e)
 
       pub put_three : (u r : List ℕ) → k ≤ 3 → (k ≡ 0 → ⊥) → (k ≡ 1 → ⊥) → (k ≡ 2 → ⊥) → u ≡ sets o 3 (bytes_of 2 s.second) → r ≡ sets u 5 (bytes_of 2 s.third) → r ≡ sets l 0 (list_bytes s)
-      unfolding bytes_of shorts_bytes firsts
+      unfolding bytes_of nodes_bytes firsts
       put_three u r d x y z t v =
           let e = three_left k d x y z in
-          wrote l u 0 5 ((bytes_of 1 k ++ bytes_of 2 s.first) ++ bytes_of 2 s.second) (bytes_of 2 s.third) v (second-put u t) refl
-          ∙ ap (λ (z : List ℕ). sets l 0 z) (bytes-of 3 e)
+          wrote l u 0 5 ((bytes_of 1 k ++ bytes_of 2 s.first) ++ bytes_of 2 s.second) (bytes_of 2 s.third) v (second_put u t) refl
+          ∙ ap (λ (z : List ℕ). sets l 0 z) (bytes_of_lem 3 e)
 
 -- ---- the answer
 abbrev Answers : After → List ℕ → Saved → List ℕ → Type 0
@@ -166,25 +166,25 @@ module _ (a : After) (out : List ℕ) where
     pub next_fits : (r : List ℕ) → 1 + 2 * k ≤ length out → r ≡ sets out 0 (list_bytes s) → Answers a out (saved.Size (1 + 2 * k)) r
     next_fits r l e = subst (λ (b : After). Answers b out (saved.Size (1 + 2 * k)) r) (sym g) (fits r l e)
 
-    pub next-short : length out < 1 + 2 * k → Answers a out (saved.Refused short_buffer) out
-    next-short l = subst (λ (b : After). Answers b out (saved.Refused short_buffer) out) (sym g) (short l)
+    pub next_short : length out < 1 + 2 * k → Answers a out (saved.Refused short_buffer) out
+    next_short l = subst (λ (b : After). Answers b out (saved.Refused short_buffer) out) (sym g) (short l)
 
-  pub answer-last : a ≡ Last → Answers a out (saved.Size 0) out
+  pub answer_last : a ≡ Last → Answers a out (saved.Size 0) out
   unfolding answered_in answered_after
-  answer-last g = subst (λ (b : After). Answers b out (saved.Size 0) out) (sym g) (refl, refl)
+  answer_last g = subst (λ (b : After). Answers b out (saved.Size 0) out) (sym g) (refl, refl)
 
-  pub answer-refused : (k : ℕ) → a ≡ Refused k → Answers a out (saved.Refused k) out
+  pub answer_refused : (k : ℕ) → a ≡ Refused k → Answers a out (saved.Refused k) out
   unfolding answered_in answered_after
-  answer-refused k g = subst (λ (b : After). Answers b out (saved.Refused k) out) (sym g) (refl, refl)
+  answer_refused k g = subst (λ (b : After). Answers b out (saved.Refused k) out) (sym g) (refl, refl)
 
 -- ---- the call
 module _ (n : ℕ) (list out : List ℕ) where
-  pub next-whole : (a : After) (r : Saved) (o : List ℕ) → list_whole list ≡ true → a ≡ next_of n (list_at_of list) → Answers a out r o
+  pub next_whole : (a : After) (r : Saved) (o : List ℕ) → list_whole list ≡ true → a ≡ next_of n (list_at_of list) → Answers a out r o
       → (r ≡ next_list_in n list out) × (o ≡ next_list_after n list out)
   unfolding next_list_in next_list_after
-  next-whole a r o h e q =
+  next_whole a r o h e q =
       (rw h (q.0 ∙ ap (λ (b : After). answered_in b out) e), rw h (q.1 ∙ ap (λ (b : After). answered_after b out) e))
 
-  pub next-cut : list_whole list ≡ false → (saved.Refused bad_length ≡ next_list_in n list out) × (out ≡ next_list_after n list out)
+  pub next_cut : list_whole list ≡ false → (saved.Refused bad_length ≡ next_list_in n list out) × (out ≡ next_list_after n list out)
   unfolding next_list_in next_list_after
-  next-cut h = (rw h, rw h)
+  next_cut h = (rw h, rw h)

@@ -4,7 +4,7 @@ use Rattle.std.proofs.lemmas.List.Edits.{sets}
 use Rattle.refusal.specs.Numbers.{bad_length, short_buffer}
 use Rattle.record.specs.declared.Saved.{Saved}
 use Rattle.record.specs.declared.Saved.TheVariants as saved
-use Rattle.wire.specs.Bytes.{bytes_of, shorts_bytes, number_at}
+use Rattle.wire.specs.Bytes.{bytes_of, number_at}
 use Rattle.small_trees.specs.declared.SplitList.{SplitList}
 use Rattle.small_trees.specs.declared.After.{After}
 use Rattle.small_trees.specs.declared.After.TheVariants.{Next, Last, Refused}
@@ -22,12 +22,16 @@ list_at_of bytes = nodes_from (get_or bytes 0 0) 1 bytes
 unfoldable pub list_whole : List ℕ → Bool
 list_whole bytes = eqb (length bytes) (1 + 2 * get_or bytes 0 0)
 
+unfoldable pub nodes_bytes : List ℕ → List ℕ
+nodes_bytes [] = []
+nodes_bytes (x ∷ xs) = bytes_of 2 x ++ nodes_bytes xs
+
 -- the list that the call hands back, and how many nodes it has
 abbrev pub held_of : SplitList → ℕ
 held_of s = length (unpacked s)
 
 abbrev pub list_bytes : SplitList → List ℕ
-list_bytes s = bytes_of 1 (held_of s) ++ shorts_bytes (unpacked s)
+list_bytes s = bytes_of 1 (held_of s) ++ nodes_bytes (unpacked s)
 
 -- "gives the next": its bytes, 9 where they do not fit; "or says that it was the last": no byte; or the call's refusal
 unfoldable pub answered_in : After → List ℕ → Saved

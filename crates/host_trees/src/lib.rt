@@ -1,4 +1,6 @@
 // Trees that need no record, for hosts, over the bytes that they hold: the split list after another, and the row of the even tree.
+#![tactic(auto)]
+
 ghost use Rattle.std.specs.Prelude.{◌≡◌, ◌+◌, ◌*◌, ◌≤◌, length};
 ghost use Rattle.std.proofs.lemmas.List.Edits.{sets};
 ghost use Rattle.small_trees.specs.Calls.{next_of};

@@ -7,7 +7,7 @@ use trainer::inner::{axes, leaf, scoring};
 use trainer::settings::Settings;
 
 // A leaf's present action, and what a trainer has of it in phase 5. With a count of 0 the leaf is finished.
-#[derive(Drop)]
+#[derive(Clone, Copy)]
 pub struct Tuned {
     pub action: Action,
     pub best: f64,
@@ -18,7 +18,7 @@ pub struct Tuned {
 }
 
 // The candidate that is kept, with its score.
-#[derive(Drop)]
+#[derive(Clone, Copy)]
 struct Kept {
     kept: u16,
     score: f64,

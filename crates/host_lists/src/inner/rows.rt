@@ -6,7 +6,7 @@ ghost use Rattle.trainer.specs.Settings.{settings_hold};
 ghost use Rattle.trainer.specs.Candidates.{candidates_of, no_candidate};
 ghost use Rattle.trainer.specs.State.{accepted_of};
 ghost use Rattle.wire.specs.Fields.{action_at};
-ghost use Rattle.host_lists.specs.Lists.{list_bytes, list_fits, list_after, asked_in_aRow};
+ghost use Rattle.host_lists.specs.Lists.{list_bytes, list_fits, list_after, asked_in_a_row};
 ghost use Rattle.host_lists.specs.Parts.{product_of, Few, own_part, row_of, candidates_with};
 
 use record::Saved;
@@ -131,7 +131,7 @@ pub fn candidates_with(s: Settings, action: &[u8], out: &mut [u8]) -> Saved
 // What an accepted trainer asks for in a row.
 pub fn asked_by(t: Trainer, out: &mut [u8]) -> Saved
     requires { accepted_of t ≡ true }
-    ensures { (result ≡ list_fits (asked_in_aRow t) out.old) × (out.new ≡ list_after (asked_in_aRow t) out.old (list_fits (asked_in_aRow t) out.old)) }
+    ensures { (result ≡ list_fits (asked_in_a_row t) out.old) × (out.new ≡ list_after (asked_in_a_row t) out.old (list_fits (asked_in_a_row t) out.old)) }
 {
     let s = t.settings;
     let tree = t.tree;

@@ -14,12 +14,11 @@ use rule_tree::inner::{change, links, walk};
 use rule_tree::{Looked, RuleTree};
 use wire::inner::{read, write};
 
-// Whether a point lies in the root box, the leaf that it reaches there, and how many cubes a search in order tests for it.
-#[derive(Drop)]
+// Whether a point lies in the root box, and the leaf that it reaches there.
+#[derive(Clone, Copy)]
 pub struct Spot {
     pub inside: bool,
     pub node: u16,
-    pub tested: u32,
 }
 
 pub fn point_of(bytes: &[u8]) -> Point
@@ -31,23 +30,18 @@ pub fn point_of(bytes: &[u8]) -> Point
     Point::new(ack, send, ratio)
 }
 
-// The leaf that p reaches by a tree's links; node 0, and the root's cube alone, for a point outside the root.
-pub fn seek(children: &[u16; 513], root: Cube, p: Point) -> Spot
+// The leaf that p reaches by a tree's links; node 0 for a point outside the root.
+fn seek(children: &[u16; 513], root: Cube, p: Point) -> Spot
     requires { Ready children.now root }
     ensures { result ≡ spot_of children.now root p }
 {
     if root.contains(p) {
-        let reached = walk::walk(children, root, p);
-        return Spot {
-            inside: true,
-            node: reached.node,
-            tested: reached.tested,
-        };
+        let node = walk::walk(children, root, p).node;
+        return Spot { inside: true, node };
     }
     Spot {
         inside: false,
         node: 0,
-        tested: 1,
     }
 }
 

@@ -1,0 +1,11 @@
+-- `trips_at` takes the cases of its definition. Assumes nothing.
+use Rattle.host_sender.proofs.Reading as law
+use Rattle.host_sender.proofs.inner.read.trips_at.Goals as goal
+
+pub returns-then-flag_at : goal.returns-then-flag_at
+returns-then-flag_at c =
+    law.trips_there c.args.bytes.now c.args.at c.flag_at.ensures c.if-flag_at.true c.float_at.ensures c.float_at-then-flag_at.ensures
+
+pub returns : goal.returns
+returns c =
+    law.trips_none c.args.bytes.now c.args.at c.flag_at.ensures c.if-flag_at.false
