@@ -1,18 +1,19 @@
 // Bursts of acks, printed, each beside its acks given one by one: how many are taken, what stops it, and what is in the two lists.
+#![tactic(auto)]
+
 ghost use Rattle.std.specs.Prelude.{◌≤◌};
 
-use libc::STDOUT_FILENO;
 use remy::action::Action;
 use remy::point::Point;
 use rule_tree::RuleTree;
 use sender::{Ack, Burst, BurstReply, Draw, Ran, RepeatMode, Reply, Sender};
 
 fn say(text: &[u8]) {
-    io::write_all(STDOUT_FILENO, text);
+    io::write_all(1, text);
 }
 
 fn number(n: u64) {
-    io::print_decimal(STDOUT_FILENO, n);
+    io::print_decimal(1, n);
 }
 
 // A tree of one leaf, whose action adds to the window.

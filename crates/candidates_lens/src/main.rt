@@ -1,6 +1,7 @@
 // Candidates of the usual settings, and of settings at the edges of what is taken. A line for each call: the list's length with the
 // candidate's multiplier bits, increment and delay bits; the length and "none" past the end; "refused" and the number.
-use libc::STDOUT_FILENO;
+#![tactic(auto)]
+
 use remy::action::Action;
 use remy::point::Point;
 use trainer::candidates::Candidate;
@@ -42,38 +43,38 @@ fn usual() -> Settings {
 fn print_increment(increment: i32) {
     let wide = increment as i64;
     if wide < 0 {
-        io::write_all(STDOUT_FILENO, b"-");
-        io::print_decimal(STDOUT_FILENO, (0 - wide) as u64);
+        io::write_all(1, b"-");
+        io::print_decimal(1, (0 - wide) as u64);
     } else {
-        io::print_decimal(STDOUT_FILENO, wide as u64);
+        io::print_decimal(1, wide as u64);
     }
 }
 
 fn print_action(a: Action) {
-    io::write_all(STDOUT_FILENO, b" ");
-    io::print_hex(STDOUT_FILENO, floats::to_bits(a.window_multiplier), 16);
-    io::write_all(STDOUT_FILENO, b" ");
+    io::write_all(1, b" ");
+    io::print_hex(1, floats::to_bits(a.window_multiplier), 16);
+    io::write_all(1, b" ");
     print_increment(a.window_increment);
-    io::write_all(STDOUT_FILENO, b" ");
-    io::print_hex(STDOUT_FILENO, floats::to_bits(a.intersend_delay.0), 16);
+    io::write_all(1, b" ");
+    io::print_hex(1, floats::to_bits(a.intersend_delay.0), 16);
 }
 
 fn show(s: Settings, a: Action, k: u32) {
     match trainer::candidates::candidate_at(s, a, k) {
         Candidate::At(length, found) => {
-            io::print_decimal(STDOUT_FILENO, length as u64);
+            io::print_decimal(1, length as u64);
             print_action(found);
         }
         Candidate::Past(length) => {
-            io::print_decimal(STDOUT_FILENO, length as u64);
-            io::write_all(STDOUT_FILENO, b" none");
+            io::print_decimal(1, length as u64);
+            io::write_all(1, b" none");
         }
         Candidate::Refused(number) => {
-            io::write_all(STDOUT_FILENO, b"refused ");
-            io::print_decimal(STDOUT_FILENO, number as u64);
+            io::write_all(1, b"refused ");
+            io::print_decimal(1, number as u64);
         }
     }
-    io::write_all(STDOUT_FILENO, b"\n");
+    io::write_all(1, b"\n");
 }
 
 // The usual settings and their default action: first, last and past the end.

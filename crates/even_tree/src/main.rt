@@ -1,19 +1,20 @@
 // The even tree, grown by the calls, and the bounds of its 64 leaves: a row a line, the three lower ends and then the three upper ones.
-use libc::STDOUT_FILENO;
+#![tactic(auto)]
+
 use remy::action::Action;
 use remy::cube::Cube;
 use remy::point::Point;
 use rule_tree::{Domain, RuleTree};
 
 fn say(text: &[u8]) {
-    io::write_all(STDOUT_FILENO, text);
+    io::write_all(1, text);
 }
 
 // A bound, which is a whole number of 0 or more.
 fn number(x: f64) {
     if x > -1.0 {
         if x < 18446744073709551616.0 {
-            io::print_decimal(STDOUT_FILENO, std::num::truncating_f64_to_u64(x));
+            io::print_decimal(1, std::num::truncating_f64_to_u64(x));
         }
     }
 }
@@ -58,7 +59,7 @@ fn main() {
             }
             Domain::Refused(n) => {
                 say(b"refused ");
-                io::print_decimal(STDOUT_FILENO, n as u64);
+                io::print_decimal(1, n as u64);
                 say(b"\n");
             }
         }

@@ -1,13 +1,14 @@
 // Every small tree in turn, printed: the split lists from [] on for n of 0 to 3, how many they are, and lists that are refused or the last.
-use libc::STDOUT_FILENO;
+#![tactic(auto)]
+
 use small_trees::{After, SplitList};
 
 fn say(text: &[u8]) {
-    io::write_all(STDOUT_FILENO, text);
+    io::write_all(1, text);
 }
 
 fn number(n: u64) {
-    io::print_decimal(STDOUT_FILENO, n);
+    io::print_decimal(1, n);
 }
 
 fn item(n: u16) {

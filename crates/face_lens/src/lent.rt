@@ -7,7 +7,7 @@ use rule_tree::RuleTree;
 use sender::{Draw, Held, Sender};
 use sender_face::Answer;
 
-#[derive(Drop)]
+#[derive(Clone, Copy)]
 pub struct Lent {
     pub sender: Sender,
     pub answer: Answer,

@@ -1,9 +1,10 @@
 // One sender lent to the face call after call, beside the calls by value: what is answered, which fields
 // changed, and whether both agree.
+#![tactic(auto)]
+
 mod lent;
 
 use lent::Lent;
-use libc::STDOUT_FILENO;
 use remy::action::Action;
 use remy::point::Point;
 use rule_tree::RuleTree;
@@ -11,11 +12,11 @@ use sender::{Average, Draw, Held, Made, Moment, Pending, RepeatMode, Reply, Rtt,
 use sender_face::Answer;
 
 fn say(text: &[u8]) {
-    io::write_all(STDOUT_FILENO, text);
+    io::write_all(1, text);
 }
 
 fn number(n: u32) {
-    io::print_decimal(STDOUT_FILENO, n as u64);
+    io::print_decimal(1, n as u64);
 }
 
 fn both(a: bool, b: bool) -> bool {

@@ -1,28 +1,29 @@
 // The worked examples of points, cubes, windows and moments, printed.
-use libc::STDOUT_FILENO;
+#![tactic(auto)]
+
 use quantities::Admitted;
 use remy::action::Action;
 use remy::cube::Cube;
 use remy::point::Point;
 
 fn number(n: u64) {
-    io::print_decimal(STDOUT_FILENO, n);
+    io::print_decimal(1, n);
 }
 
 fn end() {
-    io::write_all(STDOUT_FILENO, b"\n");
+    io::write_all(1, b"\n");
 }
 
 // The window after an action.
 fn window(w: u32, multiplier: f64, increment: i32) {
-    io::write_all(STDOUT_FILENO, b"window ");
+    io::write_all(1, b"window ");
     number(w as u64);
-    io::write_all(STDOUT_FILENO, b" becomes ");
+    io::write_all(1, b" becomes ");
     let a = Action::new(multiplier, increment, 0.0);
     let r = a.applied(w);
     number(r.window as u64);
     if r.clipped {
-        io::write_all(STDOUT_FILENO, b" clipped");
+        io::write_all(1, b" clipped");
     }
     end();
 }
@@ -32,10 +33,10 @@ fn place(ack: f64, send: f64, ratio: f64) {
     let p = Point::new(ack, send, ratio);
     let root = Cube::root(Point::usual_ends());
     if root.contains(p) {
-        io::write_all(STDOUT_FILENO, b"node ");
+        io::write_all(1, b"node ");
         number(root.toward(p).number as u64 + 1);
     } else {
-        io::write_all(STDOUT_FILENO, b"none");
+        io::write_all(1, b"none");
     }
     end();
 }
@@ -45,11 +46,11 @@ fn moment(value: f64) {
     match quantities::admit(value) {
         Admitted::At(t) => {
             let bits = floats::to_bits(t.held());
-            io::write_all(STDOUT_FILENO, b"moment ");
-            io::print_hex(STDOUT_FILENO, bits, 16);
+            io::write_all(1, b"moment ");
+            io::print_hex(1, bits, 16);
         }
         Admitted::Refused(n) => {
-            io::write_all(STDOUT_FILENO, b"refused ");
+            io::write_all(1, b"refused ");
             number(n as u64);
         }
     }

@@ -1,8 +1,9 @@
 // Records of versions 1 and 2 on standard input, one after the other: for each a line with its size, the size of what is saved of its trainer,
 // which is of version 3, 1 where that loads as a trainer of which the same bytes are saved, and those bytes.
+#![tactic(auto)]
+
 ghost use Rattle.io.specs.Counts.{IsPrefixLen};
 
-use libc::{STDIN_FILENO, STDOUT_FILENO};
 use record::Saved;
 use wire::inner::read;
 
@@ -14,12 +15,12 @@ fn within(n: usize, bytes: &[u8]) -> usize
 }
 
 fn put_number(n: usize) {
-    io::print_decimal(STDOUT_FILENO, n as u64);
-    io::write_all(STDOUT_FILENO, b" ");
+    io::print_decimal(1, n as u64);
+    io::write_all(1, b" ");
 }
 
 fn put_byte(b: u8) {
-    io::print_hex(STDOUT_FILENO, b as u64, 2);
+    io::print_hex(1, b as u64, 2);
 }
 
 fn put_bytes(bytes: &[u8]) {
@@ -28,7 +29,7 @@ fn put_bytes(bytes: &[u8]) {
         put_byte(bytes[i]);
         i += 1;
     }
-    io::write_all(STDOUT_FILENO, b"\n");
+    io::write_all(1, b"\n");
 }
 
 // How many bytes are saved of the trainer of a record; none where it is refused.
@@ -73,7 +74,7 @@ fn one(record: &[u8]) {
 // The next record, by its own length. Whether there was one.
 fn next(bytes: &mut [u8]) -> bool {
     let head = within(4, bytes);
-    if io::read_full(STDIN_FILENO, &mut bytes[..head]) < 4 {
+    if io::read_full(0, &mut bytes[..head]) < 4 {
         return false;
     }
     let n = read::word_at(bytes, 0) as usize;
@@ -81,7 +82,7 @@ fn next(bytes: &mut [u8]) -> bool {
     if end < 4 {
         return false;
     }
-    io::read_full(STDIN_FILENO, &mut bytes[4..end]);
+    io::read_full(0, &mut bytes[4..end]);
     let k = within(end, bytes);
     one(&bytes[..k]);
     true

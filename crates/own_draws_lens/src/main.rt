@@ -1,5 +1,6 @@
 // A sender that draws for itself, printed: at which acks its generator steps, and what is refused.
-use libc::STDOUT_FILENO;
+#![tactic(auto)]
+
 use remy::action::Action;
 use remy::point::Point;
 use rule_tree::RuleTree;
@@ -7,18 +8,18 @@ use sender::{Pending, RepeatMode, Reply, Sender};
 use xoshiro::State;
 
 // A sender with its generator.
-#[derive(Drop)]
+#[derive(Clone, Copy)]
 struct Drawer {
     sender: Sender,
     generator: State,
 }
 
 fn say(text: &[u8]) {
-    io::write_all(STDOUT_FILENO, text);
+    io::write_all(1, text);
 }
 
 fn number(n: u64) {
-    io::print_decimal(STDOUT_FILENO, n);
+    io::print_decimal(1, n);
 }
 
 fn words(s: State) {

@@ -1,18 +1,19 @@
 // The leaves that ranges reach in a tree whose root was split, in two of 60 splits at a corner, and what is refused, printed.
+#![tactic(auto)]
+
 ghost use Rattle.std.specs.Prelude.{◌≤◌};
 
-use libc::STDOUT_FILENO;
 use ranges::{Leaves, Range, Ranges};
 use remy::action::Action;
 use remy::point::Point;
 use rule_tree::RuleTree;
 
 fn say(text: &[u8]) {
-    io::write_all(STDOUT_FILENO, text);
+    io::write_all(1, text);
 }
 
 fn number(n: u64) {
-    io::print_decimal(STDOUT_FILENO, n);
+    io::print_decimal(1, n);
 }
 
 fn item(n: u16) {

@@ -1,5 +1,6 @@
 // The refusals of damaged records, and of bytes around each limit of the record's length.
-use libc::STDOUT_FILENO;
+#![tactic(auto)]
+
 use record::Saved;
 use remy::action::Action;
 use remy::point::Point;
@@ -31,12 +32,12 @@ fn usual() -> Settings {
 fn saved(s: Saved) {
     match s {
         Saved::Size(n) => {
-            io::write_all(STDOUT_FILENO, b"saved ");
-            io::print_decimal(STDOUT_FILENO, n as u64);
+            io::write_all(1, b"saved ");
+            io::print_decimal(1, n as u64);
         }
         Saved::Refused(k) => {
-            io::write_all(STDOUT_FILENO, b"refused ");
-            io::print_decimal(STDOUT_FILENO, k as u64);
+            io::write_all(1, b"refused ");
+            io::print_decimal(1, k as u64);
         }
     }
     end();
@@ -90,13 +91,13 @@ fn longest_record() {
 }
 
 fn end() {
-    io::write_all(STDOUT_FILENO, b"\n");
+    io::write_all(1, b"\n");
 }
 
 // The refusal of a load, 0 for none.
 fn loaded(bytes: &[u8]) {
-    io::write_all(STDOUT_FILENO, b" ");
-    io::print_decimal(STDOUT_FILENO, record::load(bytes).refused as u64);
+    io::write_all(1, b" ");
+    io::print_decimal(1, record::load(bytes).refused as u64);
 }
 
 fn next(x: u8) -> u8 {
@@ -126,8 +127,8 @@ fn damaged(r: [u8; 197], i: usize) {
         more[i] = next(r[i]);
         less[i] = before(r[i]);
     }
-    io::write_all(STDOUT_FILENO, b"byte ");
-    io::print_decimal(STDOUT_FILENO, i as u64);
+    io::write_all(1, b"byte ");
+    io::print_decimal(1, i as u64);
     of_196(&more);
     of_196(&less);
     end();
@@ -142,8 +143,8 @@ fn each(r: [u8; 197]) {
 }
 
 fn cut(r: &[u8; 197], n: usize) {
-    io::write_all(STDOUT_FILENO, b"first ");
-    io::print_decimal(STDOUT_FILENO, n as u64);
+    io::write_all(1, b"first ");
+    io::print_decimal(1, n as u64);
     first(r, n);
     end();
 }
@@ -160,7 +161,7 @@ fn longer(r: [u8; 197]) {
 fn longest() {
     let mut b = [0u8; 16388];
     b[2] = 64;
-    io::write_all(STDOUT_FILENO, b"16384");
+    io::write_all(1, b"16384");
     loaded(&b);
     b[4] = 1;
     loaded(&b);
@@ -172,7 +173,7 @@ fn too_long() {
     b[2] = 64;
     b[3] = 1;
     b[4] = 1;
-    io::write_all(STDOUT_FILENO, b"16385");
+    io::write_all(1, b"16385");
     loaded(&b);
     end();
 }

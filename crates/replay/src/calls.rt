@@ -9,7 +9,7 @@ use xoshiro::State;
 
 // What the calls act on: the trainer, the sender, the generator and a list of counts, one a node. With it
 // the place in the output, and whether the script is over.
-#[derive(Drop)]
+#[derive(Clone, Copy)]
 pub(crate) struct Replay {
     pub(crate) trainer: Trainer,
     pub(crate) sender: Sender,

@@ -10,7 +10,7 @@ use sender::{Draw, Made, RepeatMode, Sender};
 use trainer::settings::Settings;
 
 // What stands next in the script: a call with its code, whose fields are the first n bytes.
-#[derive(Drop)]
+#[derive(Clone, Copy)]
 pub(crate) enum Next {
     Call(u8, usize),
     End,

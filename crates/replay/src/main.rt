@@ -1,4 +1,6 @@
 // Makes the calls of a script on one trainer, one sender and one generator, and prints every answer.
+#![tactic(auto)]
+
 use crate::calls::Replay;
 use crate::input::Next;
 use sender::{Made, Sender};

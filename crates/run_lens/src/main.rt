@@ -1,5 +1,5 @@
 // A short script of calls with the settings of the Rust's default trainer. The words that are compared, one a line.
-use libc::STDOUT_FILENO;
+#![tactic(auto)]
 
 const SCRIPT: [u64; 173] = [
     // rule_splits, rounds, multiplier, drill
@@ -206,8 +206,8 @@ const SCRIPT: [u64; 173] = [
 fn print_words(words: &[u64]) {
     let mut i: usize = 0;
     while i < words.len() {
-        io::print_decimal(STDOUT_FILENO, words[i]);
-        io::write_all(STDOUT_FILENO, b"\n");
+        io::print_decimal(1, words[i]);
+        io::write_all(1, b"\n");
         i += 1;
     }
 }

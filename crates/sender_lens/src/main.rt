@@ -1,16 +1,17 @@
 // A sender at work, printed: which acks look up, which repeat, and what is refused.
-use libc::STDOUT_FILENO;
+#![tactic(auto)]
+
 use remy::action::Action;
 use remy::point::Point;
 use rule_tree::RuleTree;
 use sender::{Draw, Event, Made, Pending, RepeatMode, Reply, Sender, Wake};
 
 fn say(text: &[u8]) {
-    io::write_all(STDOUT_FILENO, text);
+    io::write_all(1, text);
 }
 
 fn number(n: u32) {
-    io::print_decimal(STDOUT_FILENO, n as u64);
+    io::print_decimal(1, n as u64);
 }
 
 fn refused(n: u32) {
@@ -91,7 +92,7 @@ fn wake(s: Sender, now: f64) {
     match s.next_tick(now) {
         Wake::At(t) => {
             say(b"  wake at ");
-            io::print_decimal(STDOUT_FILENO, whole(t.held() * 1000.0));
+            io::print_decimal(1, whole(t.held() * 1000.0));
             say(b" ms\n");
         }
         Wake::Never => say(b"  no wake\n"),

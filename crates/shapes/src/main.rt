@@ -1,7 +1,8 @@
 // Rule trees of both shapes at their full size, a chain and a bush, and what the calls on trees answer at their edges, printed.
+#![tactic(auto)]
+
 ghost use Rattle.std.specs.Prelude.{◌≤◌};
 
-use libc::STDOUT_FILENO;
 use remy::action::Action;
 use remy::point::Point;
 use rule_tree::{
@@ -9,7 +10,7 @@ use rule_tree::{
 };
 
 fn say(text: &[u8]) {
-    io::write_all(STDOUT_FILENO, text);
+    io::write_all(1, text);
 }
 
 fn end() {
@@ -17,12 +18,12 @@ fn end() {
 }
 
 fn number(n: u64) {
-    io::print_decimal(STDOUT_FILENO, n);
+    io::print_decimal(1, n);
 }
 
 fn bits(x: f64) {
     let b = floats::to_bits(x);
-    io::print_hex(STDOUT_FILENO, b, 16);
+    io::print_hex(1, b, 16);
 }
 
 fn item(n: u64) {

@@ -1,15 +1,16 @@
 // Lookups through a view of the nodes that a tree uses, with one leaf's action replaced, and what is refused, printed.
-use libc::STDOUT_FILENO;
+#![tactic(auto)]
+
 use remy::action::Action;
 use remy::point::Point;
 use rule_tree::{Looked, Node, RuleTree};
 
 fn say(text: &[u8]) {
-    io::write_all(STDOUT_FILENO, text);
+    io::write_all(1, text);
 }
 
 fn number(n: u64) {
-    io::print_decimal(STDOUT_FILENO, n);
+    io::print_decimal(1, n);
 }
 
 // An action by its increment, which is what it makes of the window 0.

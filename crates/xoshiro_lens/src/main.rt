@@ -1,13 +1,14 @@
 // xoshiro256++ from the words 1, 2, 3, 4, printed: ten outputs, the words after them and after as many steps back, draws, and what is refused.
-use libc::STDOUT_FILENO;
+#![tactic(auto)]
+
 use xoshiro::{Drawn, Made, State, Turn};
 
 fn say(text: &[u8]) {
-    io::write_all(STDOUT_FILENO, text);
+    io::write_all(1, text);
 }
 
 fn number(n: u64) {
-    io::print_decimal(STDOUT_FILENO, n);
+    io::print_decimal(1, n);
 }
 
 fn refused(n: u32) {
