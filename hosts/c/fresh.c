@@ -54,16 +54,6 @@ int main(void) {
     printf("asks for %s of leaf %u\n", question[0] == 2 ? "a score" : "counts", question[1] * 256u + question[2]);
     printf("counts again: refused %u\n",
            knellstone_refusal(knellstone_answer_counts(next, size, counts, sizeof counts, record, sizeof record)));
-
-    uint8_t ranges[KNELLSTONE_RANGES] = {0}, leaves[2 * 513], point[KNELLSTONE_POINT] = {0}, row[KNELLSTONE_TESTED];
-    put_float(ranges + 8, 600.0);
-    uint64_t found = knellstone_ranges(next, size, ranges, sizeof ranges, leaves, sizeof leaves);
-    printf("leaves within ranges: %u\n", (unsigned)(found / 2));
-    put_float(ranges, 601.0);
-    printf("a lowest above its highest: refused %u\n",
-           knellstone_refusal(knellstone_ranges(next, size, ranges, sizeof ranges, leaves, sizeof leaves)));
-    knellstone_lookup_tested(next, size, point, sizeof point, row, sizeof row);
-    printf("cubes tested for a point: %u\n", row[KNELLSTONE_FOUND] * 256u + row[KNELLSTONE_FOUND + 1]);
     memcpy(next + size, counts, sizeof counts);
     size = knellstone_panel(next, size + sizeof counts, (uint8_t *)lines, sizeof lines);
     fwrite(lines, 1, size, stdout);

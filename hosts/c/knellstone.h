@@ -4,7 +4,7 @@
  * refusal; a refused call changes no byte of what it was lent. A slice is a pointer and a length. The
  * buffers of one call must not overlap. Numbers are big-endian; a float is its 8 bytes of bits.
  *
- * Link target/staticlib/libhost.a, which `rt staticlib host` proves and writes. */
+ * Link crates/host/out/libhost.a, which `rt lib` in crates/host proves and writes. */
 #ifndef KNELLSTONE_H
 #define KNELLSTONE_H
 
