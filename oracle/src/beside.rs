@@ -94,10 +94,19 @@ impl Run<'_> {
         let _ = fs::remove_file(place);
     }
 
+    /// The program trace: beside replay, or where rt leaves it, each program in its own crate's out.
+    fn trace(&self) -> std::path::PathBuf {
+        let beside = self.program.with_file_name("trace");
+        match self.program.ancestors().nth(3) {
+            Some(crates) if !beside.exists() => crates.join("trace/out/trace"),
+            _ => beside,
+        }
+    }
+
     /// None where a signal ended the program.
     fn program_lines(&self, kind: &str, script: &[u8], place: &Path) -> io::Result<Option<Vec<u8>>> {
         let program =
-            if kind == gen::TRACE.0 { self.program.with_file_name("trace") } else { self.program.to_owned() };
+            if kind == gen::TRACE.0 { self.trace() } else { self.program.to_owned() };
         fs::write(place, script)?;
         let ended = Command::new(program).stdin(File::open(place)?).stderr(Stdio::null()).output()?;
         Ok(ended.status.code().map(|_| ended.stdout))
