@@ -1,4 +1,4 @@
-//! Lays out the source tree of the originals in OUT_DIR: each original as a link to the file in the folder
+//! Lays out the source tree of the originals in OUT_DIR: each original as a copy of the file in the folder
 //! that FLOWFORGE_SRC names, and a file of `stand_ins/` in each place that the originals lean on and that is
 //! not compiled here. No original is changed or kept in the project.
 
@@ -64,7 +64,7 @@ fn main() {
     for name in ORIGINALS {
         let (from, to) = (source.join(name), tree.join(name));
         fs::create_dir_all(to.parent().unwrap()).unwrap();
-        std::os::unix::fs::symlink(&from, to).unwrap();
+        fs::copy(&from, &to).unwrap();
         println!("cargo:rerun-if-changed={}", from.display());
     }
     for (name, place) in STAND_INS {
