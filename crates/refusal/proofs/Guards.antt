@@ -3,7 +3,10 @@ use mathlib.Core.Path.{◌≡◌, refl}
 use mathlib.Core.Bool.{Bool, true, false, cond, ◌&&◌}
 use mathlib.Core.List.{List, [], ◌∷◌}
 use Prim.Native.Nat.{ℕ}
-use Rattle.refusal.specs.Guards.{Test, guarded, first_of, passes}
+use Rattle.std.specs.Prelude.{Result, Ok, Err}
+use Rattle.refusal.specs.declared.Refusal.{Refusal}
+use Rattle.refusal.specs.Numbers.{number_of}
+use Rattle.refusal.specs.Guards.{Test, guarded, first_of, passes, Check, checked, first_refused, pass}
 
 pub either : {A : Type 0} (P : A → Type 0) (b : Bool) {x y : A} → P x → P y → P (cond b x y)
 either P true p q = p
@@ -40,3 +43,32 @@ module _ {A : Type 0} (refuse : ℕ → A) (answer : A) where
           → f (cond b (guarded ts refuse answer) (refuse t.number)) ≡ cond (b && passes ts) v w
       go true e g = g e
       go false e g = r t.number
+
+-- ---- the same for answers that are refused by kind
+-- all checks hold
+abbrev pub Pass : List Check → Type 0
+Pass [] = Unit {0}
+Pass (t ∷ ts) = (t.holds ≡ true) × Pass ts
+
+module _ {A : Type 0} (answer : Result A Refusal) where
+  -- what is true of each refusal and of its answer is true of a call
+  pub in_each : (P : Result A Refusal → Type 0) → ((r : Refusal) → P (Err r)) → P answer → (ts : List Check) → P (checked ts answer)
+  in_each P r a [] = a
+  in_each P r a (t ∷ ts) = either P t.holds (in_each P r a ts) (r t.refusal)
+
+  -- its number is that of the first check that fails
+  pub numbered_by : (f : Result A Refusal → ℕ) → ((r : Refusal) → f (Err r) ≡ number_of r) → f answer ≡ 0 → (ts : List Check) → f (checked ts answer) ≡ first_refused ts
+  unfolding first_refused
+  numbered_by f r a [] = a
+  numbered_by f r a (t ∷ ts) = both (λ (x : Result A Refusal) (n : ℕ). f x ≡ n) t.holds (numbered_by f r a ts) (r t.refusal)
+
+  -- where every check holds it gives v, elsewhere w
+  pub answers : {B : Type 0} (f : Result A Refusal → B) {v w : B} → ((r : Refusal) → f (Err r) ≡ w) → (ts : List Check) → (Pass ts → f answer ≡ v) → f (checked ts answer) ≡ cond (pass ts) v w
+  unfolding pass
+  answers f r [] a = a tt
+  answers {B} f {v} {w} r (t ∷ ts) a = go t.holds refl (λ e. answers f r ts (λ h. a (e, h)))
+    where
+      go : (b : Bool) → t.holds ≡ b → (t.holds ≡ true → f (checked ts answer) ≡ cond (pass ts) v w)
+          → f (cond b (checked ts answer) (Err t.refusal)) ≡ cond (b && pass ts) v w
+      go true e g = g e
+      go false e g = r t.refusal

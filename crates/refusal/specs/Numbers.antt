@@ -1,5 +1,7 @@
 -- 01, "Refused for the input, refused for the state": each number by a name.
 use Rattle.std.specs.Prelude.{ℕ}
+use Rattle.refusal.specs.declared.Refusal.{Refusal}
+use Rattle.refusal.specs.declared.Refusal.TheVariants.{NotAdmitted, BadSettings, NoLeaf, BadCounts, NoDraw, BadLength, UnknownVersion, BadField, ShortBuffer, NotGrown, FullTree, NotAsked, NoRule, FullTally, NoSplit, BadTrace, ZeroState, UnfitSettings, BadRanges, ShortList, NoSplitList}
 
 -- "moment not admitted, or a single action not valid"
 abbrev pub not_admitted : ℕ
@@ -84,3 +86,27 @@ short_list = 29
 -- 02, wish 14: "An n above 3, or a list that isn't one of them, is refused with 30"
 abbrev pub no_split_list : ℕ
 no_split_list = 30
+
+-- the number of a refusal
+unfoldable pub number_of : Refusal → ℕ
+number_of NotAdmitted = not_admitted
+number_of BadSettings = bad_settings
+number_of NoLeaf = no_leaf
+number_of BadCounts = bad_counts
+number_of NoDraw = no_draw
+number_of BadLength = bad_length
+number_of UnknownVersion = unknown_version
+number_of BadField = bad_field
+number_of ShortBuffer = short_buffer
+number_of NotGrown = not_grown
+number_of FullTree = full_tree
+number_of NotAsked = not_asked
+number_of NoRule = no_rule
+number_of FullTally = full_tally
+number_of NoSplit = no_split
+number_of BadTrace = bad_trace
+number_of ZeroState = zero_state
+number_of UnfitSettings = unfit_settings
+number_of BadRanges = bad_ranges
+number_of ShortList = short_list
+number_of NoSplitList = no_split_list
