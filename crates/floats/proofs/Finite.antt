@@ -1,4 +1,4 @@
--- `x - x == 0.0` holds just where x is finite. Assumes nothing.
+-- `x.is_finite()` and `x - x == 0.0` hold just where x is finite. Assumes nothing.
 use Rattle.std.proofs.Common.{◌≡◌, ℕ, suc, ◌+◌, ◌-◌, ◌*◌, ◌^◌, ◌<◌, Bool, true, false, cond, not, ◌||◌, T, eqb, ltb, pos, sym, refl, ap, ◌∙◌, subst, lt_irrefl, mul-pos, zero-mul, mul-one, ltb→lt, pow_pos}
 use native.Mathlib.Nat.{sub_self, eq_of_mul-eq-mul_right}
 use mathlib.Core.Bool.{beq}
@@ -8,6 +8,13 @@ use lib.Ieee.Fits.{down_pos, eq→eqb, and_i}
 use lib.Ieee.Bits.{is_true, is_false}
 use lib.Ieee.Exact.{HasValue, round_exact}
 use lib.Ieee.Scale.{finite}
+use Rattle.std.specs.Float.{float_is_finite}
+
+pub finite_test : (x : Float) → float_is_finite x ≡ finite x
+unfolding float_is_finite
+finite_test nan = refl
+finite_test (inf s) = refl
+finite_test (fin s m e) = refl
 
 pub round-zero : (f : Format) (s : Bool) (c : ℕ) → 0 < c → HasValue (round f s 0 c) s 0 c
 round-zero f s c C =

@@ -7,4 +7,3 @@ pub mod Interval
 pub mod Average
 pub mod Bits
 pub mod Same
-pub mod Whole

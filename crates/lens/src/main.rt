@@ -1,7 +1,7 @@
 // The worked examples of points, cubes, windows and moments, printed.
 #![tactic(auto)]
 
-use quantities::Admitted;
+use quantities::Time;
 use remy::action::Action;
 use remy::cube::Cube;
 use remy::point::Point;
@@ -43,15 +43,15 @@ fn place(ack: f64, send: f64, ratio: f64) {
 
 // The bits of a moment that is admitted.
 fn moment(value: f64) {
-    match quantities::admit(value) {
-        Admitted::At(t) => {
+    match Time::admit(value) {
+        Ok(t) => {
             let bits = floats::to_bits(t.held());
             io::write_all(1, b"moment ");
             io::print_hex(1, bits, 16);
         }
-        Admitted::Refused(n) => {
+        Err(r) => {
             io::write_all(1, b"refused ");
-            number(n as u64);
+            number(r.number() as u64);
         }
     }
     end();

@@ -1,12 +1,12 @@
 -- 01, "quantities": moments, spans and what may be done with them. Each operation is binary64's, rounded once.
-use Rattle.std.specs.Prelude.{Bool, false, ◌&&◌, cond, pos, Float}
+use Rattle.std.specs.Prelude.{Bool, false, ◌&&◌, cond, [], ◌∷◌, pos, Float, Result, Ok}
 use Rattle.std.specs.Float.{fin, binary64}
 use Rattle.std.specs.Float.Ieee.{add, sub, mul, div, le, lt, eq}
-use Rattle.refusal.specs.Numbers.{not_admitted}
+use Rattle.refusal.specs.declared.Refusal.{Refusal}
+use Rattle.refusal.specs.declared.Refusal.TheVariants.{NotAdmitted}
+use Rattle.refusal.specs.Guards.{check, checked}
 use Rattle.quantities.specs.declared.TimeSpan.{TimeSpan}
 use Rattle.quantities.specs.declared.Time.{Time}
-use Rattle.quantities.specs.declared.Admitted.{Admitted}
-use Rattle.quantities.specs.declared.Admitted.TheVariants.{At, Refused}
 
 -- "A span and a moment are seconds"
 abbrev pub span : Float → TimeSpan
@@ -50,5 +50,5 @@ abbrev pub read_moment : Float → Float
 read_moment x = cond (eq x (fin false 0 (pos 0))) (fin false 0 (pos 0)) x
 
 -- refusal 1: "moment not admitted"
-unfoldable pub admit_of : Float → Admitted
-admit_of x = cond (admitted x) (At (moment (read_moment x))) (Refused not_admitted)
+unfoldable pub admit_of : Float → Result Time Refusal
+admit_of x = checked (check (admitted x) NotAdmitted ∷ []) (Ok (moment (read_moment x)))
