@@ -5,3 +5,4 @@ pub mod Lens
 pub mod Paper
 pub mod Ends
 pub mod Chains
+pub mod Equality

@@ -13,7 +13,7 @@ use Rattle.floats.specs.Interval.{within, middle, End}
 use Rattle.floats.proofs.Interval.{middle_between, upper_half, lower_half, cut_lower, cut_upper}
 use Rattle.remy.specs.declared.point.Point.{Point}
 use Rattle.remy.specs.declared.cube.Cube.{Cube}
-use Rattle.remy.specs.declared.cube.Ends.{Ends}
+use Rattle.remy.specs.declared.cube.Interval.{Interval}
 use Rattle.remy.specs.Cube.{ack, send, ratio, root_of, contains_of, middle_of, half_of, half_cube, number_of, child_cube, place_of_point, toward_of, Axis, Whole}
 use Rattle.remy.specs.Cube as cubes
 pub use Rattle.remy.proofs.Halves.{child_number}
@@ -29,7 +29,7 @@ unfolding toward_of
 toward_number c p = refl
 
 -- ---- one axis, halved
-abbrev part : Float → Float → Bool → Ends
+abbrev part : Float → Float → Bool → Interval
 unfolding half_of
 part lo hi b = half_of lo (middle lo hi) hi b
 

@@ -6,68 +6,83 @@ use native.Mathlib.Nat.{mul-pos, div-lt_iff_lt-mul, le-div_iff_mul-le}
 use native.Mathlib.Omega.{arith}
 use borrow.Author.Tests.{ltb-true, ltb-false, lt-ltb}
 use lib.IntN.{ℤ, pos, negsuc, sub_ℕ, nat_abs, ◌+ℤ◌}
-use lib.Dec.{T, ltb, ltb→lt, lt→ltb, nltb→le, not_T, lit<}
-use lib.Signed.{mag, lt_z, le_z, non_neg}
+use lib.Dec.{ltb, ltb→lt, lt→ltb, nltb→le, not_T, lit<}
+use lib.Signed.{mag}
+use Rattle.std.proofs.Common.{nat_eq}
+use Rattle.std.specs.Int.{int_min, int_max}
+use Rattle.std.proofs.lemmas.Bool.Decides.{nat_tests}
 use lib.Ieee.{Float, nan, inf, fin, up, down, lt}
 use lib.Ieee.Fits.{down_pos}
 use lib.Ieee.Casts.{to_signed_in}
-use lib.Ieee.Scale.{finite}
 use lib.Ieee.{to_signed}
 use mir.Syntax.{w32, w64}
-use mir.Val.{Fits, SFits, of_z, to_z}
+use mir.Val.{SFits, of_z, to_z}
 use mir.ValLaws.{to_z-of_z}
 use Rattle.floats.proofs.Order.{same_test}
 use Rattle.remy.specs.declared.action.Action.{Action}
 use Rattle.remy.specs.declared.action.Applied.{Applied}
-use Rattle.remy.specs.Action.{valid_of, clamp, outside, held_of, cut_outside, rule_of, window_of, sum_of, product_of}
+use Rattle.remy.specs.Action.{clamp, outside, held_of, cut_outside, rule_of, window_of, sum_of, product_of}
 
 -- ---- the sum held to 0..=1,000,000
-apart : (a : Bool) → a ≡ false → a ≡ true → ⊥
-apart a e h = subst T (sym h ∙ e) tt
+-- the sum clamped, and whether that changed it
+record Clamped (z r : ℤ) : Type 0 where
+  window : nat_abs (to_z w64 (of_z w64 r)) ≡ clamp z
+  differs : not (nat_eq (of_z w64 r) (of_z w64 z)) ≡ outside z
 
-below : (z : ℤ) (b : Bool) → lt_z z (pos 0) ≡ true → ◌≡◌ {A = Applied} record { window = 0; clipped = true } (held_of z b)
-unfolding held_of clamp outside
-below (pos n) b h = let k = ltb-true n 0 h in absurd (none n k)
+clamped : (z r : ℤ) → SFits w64 z → r ≡ int_max (pos 0) (int_min z (pos 1000000)) → Clamped z r
+unfolding clamp outside
+clamped z r f e = rw e (go z f)
   where
-    none : (n : ℕ) → n < 0 → ⊥
-    none n k = omega arith
-below (negsuc n) b h = refl
+    small : (n : ℕ) → n ≤ 1000000 → n ≡ min n 1000000
+    small n h = omega arith
 
-pub held_below : (z : ℤ) (b : Bool) → SFits w64 z → lt_z (to_z w64 (of_z w64 z)) (pos 0) ≡ true
-    → ◌≡◌ {A = Applied} record { window = 0; clipped = true } (held_of z b)
-held_below z b f h = below z b (rw (to_z-of_z w64 z f) at h)
+    large : (n : ℕ) → 1000000 < n → 1000000 ≡ min n 1000000
+    large n h = omega arith
 
-cut_at : (n c : ℕ) → c < n → c ≡ min n c
-cut_at n c h = omega arith
+    unequal : (n : ℕ) → 1000000 < n → nat_eq 1000000 n ≡ false
+    unequal n h = grind (arith, nat_tests)
 
-kept : (n c : ℕ) → n ≤ c → n ≡ min n c
-kept n c h = omega arith
+    equal : (n : ℕ) → nat_eq n n ≡ true
+    equal n = grind (arith, nat_tests)
 
-above : (z : ℤ) (b : Bool) → lt_z (pos 1000000) z ≡ true → ◌≡◌ {A = Applied} record { window = 1000000; clipped = true } (held_of z b)
-unfolding held_of clamp outside
-above (pos n) b h = rw (h, ← cut_at n 1000000 (ltb-true 1000000 n h))
-above (negsuc n) b h = absurd (apart false refl h)
+    low : (n : ℕ) → ltb n 0 ≡ false
+    low n = grind (arith, nat_tests)
 
-pub held_above : (z : ℤ) (b : Bool) → SFits w64 z → lt_z (pos 1000000) (to_z w64 (of_z w64 z)) ≡ true
-    → ◌≡◌ {A = Applied} record { window = 1000000; clipped = true } (held_of z b)
-held_above z b f h = above z b (rw (to_z-of_z w64 z f) at h)
+    above_zero : (n : ℕ) → suc n ≤ 2 ^ 63 → nat_eq 0 (2 ^ 64 - suc n) ≡ false
+    above_zero n h = grind (arith, nat_tests)
 
-inside : (z : ℤ) (b : Bool) → lt_z z (pos 0) ≡ false → lt_z (pos 1000000) z ≡ false
-    → ◌≡◌ {A = Applied} record { window = nat_abs z; clipped = b } (held_of z b)
-unfolding held_of clamp outside
-inside (pos n) b l h = rw (h, ← kept n 1000000 (ltb-false 1000000 n h))
-inside (negsuc n) b l h = absurd (apart true l refl)
+    in_range : (n : ℕ) → n ≤ 1000000 → SFits w64 (pos n)
+    in_range n h = record { sfits = omega arith }
 
-inside_fits : (z : ℤ) → lt_z z (pos 0) ≡ false → lt_z (pos 1000000) z ≡ false → T (non_neg z) × Fits w32 (nat_abs z)
-inside_fits (pos n) l h = let k = ltb-false 1000000 n h in (tt, record { fits = omega arith })
-inside_fits (negsuc n) l h = absurd (apart true l refl)
+    go : (z : ℤ) → SFits w64 z → Clamped z (int_max (pos 0) (int_min z (pos 1000000)))
+    go (negsuc n) f = record { window = refl; differs = rw (above_zero n (let h = f.sfits in omega arith)) }
+    go (pos n) f = by (ltb 1000000 n) refl
+      where
+        by : (b : Bool) → ltb 1000000 n ≡ b → Clamped (pos n) (int_max (pos 0) (cond b (pos 1000000) (pos n)))
+        by true e = let h = ltb-true 1000000 n e in record { window = large n h; differs = rw (unequal n h, e) }
+        by false e =
+            let h = ltb-false 1000000 n e in
+            rw (low n) record { window = ap nat_abs (to_z-of_z w64 (pos n) (in_range n h)) ∙ small n h; differs = rw (equal n, e) }
 
-module _ (z : ℤ) (f : SFits w64 z) (l : lt_z (to_z w64 (of_z w64 z)) (pos 0) ≡ false) (h : lt_z (pos 1000000) (to_z w64 (of_z w64 z)) ≡ false) where
-  pub held_fits : T (non_neg (to_z w64 (of_z w64 z))) × Fits w32 (nat_abs (to_z w64 (of_z w64 z)))
-  held_fits = inside_fits (to_z w64 (of_z w64 z)) l h
+module _ (z r : ℤ) (cut : Bool) (f : SFits w64 z) (e : r ≡ int_max (pos 0) (int_min z (pos 1000000))) where
+  pub held_clipped : (of_z w64 r ≡ of_z w64 z → ⊥)
+      → ◌≡◌ {A = Applied} record { window = nat_abs (to_z w64 (of_z w64 r)); clipped = not (nat_eq (of_z w64 r) (of_z w64 z)) } (held_of z cut)
+  unfolding held_of
+  held_clipped h =
+      let c = clamped z r f e in
+      let u : not (nat_eq (of_z w64 r) (of_z w64 z)) ≡ true = unequal (of_z w64 r) (of_z w64 z) h in
+      rw (u, c.window, sym c.differs ∙ u)
+    where
+      unequal : (a b : ℕ) → (a ≡ b → ⊥) → not (nat_eq a b) ≡ true
+      unequal a b h = grind (arith, nat_tests)
 
-  pub held_inside : (b : Bool) → ◌≡◌ {A = Applied} record { window = nat_abs (to_z w64 (of_z w64 z)); clipped = b } (held_of z b)
-  held_inside b = rw (to_z-of_z w64 z f) (inside z b (rw (to_z-of_z w64 z f) at l) (rw (to_z-of_z w64 z f) at h))
+  pub held_kept : of_z w64 r ≡ of_z w64 z
+      → ◌≡◌ {A = Applied} record { window = nat_abs (to_z w64 (of_z w64 r)); clipped = cut } (held_of z cut)
+  unfolding held_of
+  held_kept h = let c = clamped z r f e in rw (c.window, sym (sym (equal (of_z w64 r) (of_z w64 z) h) ∙ c.differs))
+    where
+      equal : (a b : ℕ) → a ≡ b → not (nat_eq a b) ≡ false
+      equal a b h = grind (arith, nat_tests)
 
 -- ---- a product that is cut outside the range of i32
 abbrev low_end : Float
@@ -118,14 +133,12 @@ cut_is (fin true m e) =
     ∙ ap (λ (b : Bool). not (ltb (m * up e * 1) (2147483649 * down e) && b))
     (sym (lt-ltb 0 (m * up e * 1 + 2147483648 * down e) (above_zero (m * up e) 2147483648 (down e) (lit< tt) (down_pos e))))
 
-pub cut_none : (x : Float) → lt low_end x ≡ true → lt x high_end ≡ true → false ≡ cut_outside x
-cut_none x h k = rw (cut_is x, h, k)
+-- the two ways through the test that x lies inside
+pub cut_above : (x : Float) (b : Bool) → lt low_end x ≡ true → b ≡ lt x high_end → not b ≡ cut_outside x
+cut_above x b h e = rw (cut_is x, h, e)
 
-pub cut_high : (x : Float) → lt low_end x ≡ true → lt x high_end ≡ false → true ≡ cut_outside x
-cut_high x h k = rw (cut_is x, h, k)
-
-pub cut_low : (x : Float) → lt low_end x ≡ false → true ≡ cut_outside x
-cut_low x h = rw (cut_is x, h)
+pub cut_below : (x : Float) (b : Bool) → lt low_end x ≡ false → b ≡ lt low_end x → not b ≡ cut_outside x
+cut_below x b h e = rw (cut_is x, e, h)
 
 -- ---- the sum, in i64
 mag_sub : (a b H : ℕ) → a < H → b ≤ H → mag (sub_ℕ a b) < H + H
@@ -160,29 +173,6 @@ sum_fits f g = rw (same f, same g) (wide_sum f g)
 
 pub cut-whole : (x : Float) (z : ℤ) → z ≡ to_signed 31 x → SFits w32 z
 cut-whole x z e = record { sfits = subst (λ (y : ℤ). mag y < 2 ^ 31) (sym e) (to_signed_in 31 x) }
-
--- ---- an action is valid; z is the increment
-module _ (a : Action) where
-  pub valid_all : (x y : Bool) (z : ℤ) → x ≡ finite a.window_multiplier → x ≡ true
-      → y ≡ finite a.intersend_delay.0 → y ≡ true
-      → z ≡ a.window_increment → le_z (negsuc 999999) z ≡ true → le_z z (pos 1000000) ≡ valid_of a
-  unfolding valid_of
-  valid_all x y z ex tx ey ty ez h = rw (← ex, tx, ← ey, ty, ← ez, h)
-
-  pub valid_low : (x y : Bool) (z : ℤ) → x ≡ finite a.window_multiplier → x ≡ true
-      → y ≡ finite a.intersend_delay.0 → y ≡ true
-      → z ≡ a.window_increment → le_z (negsuc 999999) z ≡ false → le_z (negsuc 999999) z ≡ valid_of a
-  unfolding valid_of
-  valid_low x y z ex tx ey ty ez h = rw (← ex, tx, ← ey, ty, ← ez, h)
-
-  pub valid_not_second : (x y : Bool) → x ≡ finite a.window_multiplier → x ≡ true
-      → y ≡ finite a.intersend_delay.0 → y ≡ false → false ≡ valid_of a
-  unfolding valid_of
-  valid_not_second x y ex tx ey ty = rw (← ex, tx, ← ey, ty)
-
-  pub valid_not_first : (x : Bool) → x ≡ finite a.window_multiplier → x ≡ false → false ≡ valid_of a
-  unfolding valid_of
-  valid_not_first x ex tx = rw (← ex, tx)
 
 -- ---- the window rule
 pub rule_is : (a : Action) (w : ℕ) → held_of (sum_of a w) (cut_outside (product_of a w)) ≡ rule_of a w

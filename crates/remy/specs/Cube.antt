@@ -5,7 +5,8 @@ use Rattle.std.specs.Float.Ieee.{eq, le}
 use Rattle.floats.specs.Interval.{within, middle, End}
 use Rattle.remy.specs.declared.point.Point.{Point}
 use Rattle.remy.specs.declared.cube.Cube.{Cube}
-use Rattle.remy.specs.declared.cube.Ends.{Ends}
+use Rattle.remy.specs.declared.cube.Interval.{Interval}
+use Rattle.remy.specs.declared.cube.Octant.{Octant}
 use Rattle.remy.specs.declared.cube.Child.{Child}
 
 -- "A point is two spans and a ratio"
@@ -60,10 +61,17 @@ middle_of c =
     point_of (middle (ack c.min) (ack c.max)) (middle (send c.min) (send c.max))
     (middle (ratio c.min) (ratio c.max))
 
+abbrev pub interval : Float → Float → Interval
+interval lo hi = record { lo = lo; hi = hi }
+
+-- on each axis upper, or not
+abbrev pub octant : Bool → Bool → Bool → Octant
+octant a s r = record { ack = a; send = s; ratio = r }
+
 -- the half of lo..hi above mid, or the one below it
-unfoldable pub half_of : Float → Float → Float → Bool → Ends
-half_of lo mid hi true = record { lo = mid; hi = hi }
-half_of lo mid hi false = record { lo = lo; hi = mid }
+unfoldable pub half_of : Float → Float → Float → Bool → Interval
+half_of lo mid hi true = interval mid hi
+half_of lo mid hi false = interval lo mid
 
 -- the half of a cube that is upper, or not, on each axis
 unfoldable pub half_cube : Cube → Point → Bool → Bool → Bool → Cube
@@ -77,6 +85,14 @@ half_cube c mid a s r =
 -- "Child c = 4 if upper in ack_ewma, plus 2 if upper in send_ewma, plus 1 if upper in rtt_ratio"
 unfoldable pub number_of : Bool → Bool → Bool → ℕ
 number_of a s r = cond a 4 0 + cond s 2 0 + cond r 1 0
+
+-- octant k, k modulo 8
+abbrev pub octant_of : ℕ → Octant
+octant_of k = octant (eqb (k / 4 % 2) 1) (eqb (k / 2 % 2) 1) (eqb (k % 2) 1)
+
+-- the octant about m that holds p: three comparisons
+abbrev pub octant_toward : Point → Point → Octant
+octant_toward m p = octant (le (ack m) (ack p)) (le (send m) (send p)) (le (ratio m) (ratio p))
 
 -- child k, k modulo 8
 unfoldable pub child_cube : Cube → ℕ → Cube

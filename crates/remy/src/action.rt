@@ -22,23 +22,21 @@ impl Action {
     pub fn new(multiplier: f64, increment: i32, delay: f64) -> Action
         ensures { result ≡ action_of multiplier increment delay }
     {
-        let intersend_delay = TimeSpan(delay);
         Action {
             window_multiplier: multiplier,
             window_increment: increment,
-            intersend_delay,
+            intersend_delay: TimeSpan(delay),
         }
     }
 
+    #[tactic(auto, unfolding(crate::specs::Action::valid_of))]
     pub fn valid(self) -> bool
         ensures { result ≡ valid_of self }
     {
-        if floats::is_finite(self.window_multiplier) {
-            if floats::is_finite(self.intersend_delay.0) {
-                return -1000000 <= self.window_increment && self.window_increment <= 1000000;
-            }
-        }
-        false
+        floats::is_finite(self.window_multiplier)
+            && floats::is_finite(self.intersend_delay.0)
+            && -1000000 <= self.window_increment
+            && self.window_increment <= 1000000
     }
 
     // The window rule, with whether it clipped.
@@ -63,32 +61,16 @@ impl Action {
 fn cut_outside(x: f64) -> bool
     ensures { result ≡ cut_outside x }
 {
-    if x > -2147483649.0 {
-        if x < 2147483648.0 {
-            return false;
-        }
-    }
-    true
+    !(x > -2147483649.0 && x < 2147483648.0)
 }
 
 // The sum held to 0..=1,000,000.
 fn held(sum: i64, cut: bool) -> Applied
     ensures { result ≡ held_of sum cut }
 {
-    if sum < 0 {
-        return Applied {
-            window: 0,
-            clipped: true,
-        };
-    }
-    if sum > 1000000 {
-        return Applied {
-            window: 1000000,
-            clipped: true,
-        };
-    }
+    let window = sum.clamp(0, 1000000);
     Applied {
-        window: sum as u32,
-        clipped: cut,
+        window: window as u32,
+        clipped: window != sum || cut,
     }
 }

@@ -1,22 +1,29 @@
 // Cubes of points, and how one is cut into eight halves.
-ghost use Rattle.std.specs.Prelude.{◌≡◌, ◌+◌, ◌*◌};
-ghost use Rattle.floats.specs.Interval;
-ghost use Rattle.remy.specs.Cube.{root_of, contains_of, middle_of, half_of, half_cube, number_of, child_cube, split_of, toward_of};
+ghost use Rattle.std.specs.Prelude.{◌≡◌, ◌<◌};
+ghost use Rattle.floats.specs.Interval.{within, middle};
+ghost use Rattle.remy.specs.Cube.{ack, send, ratio, interval, octant, octant_of, octant_toward, root_of, contains_of, middle_of, half_of, half_cube, number_of, child_cube, split_of, toward_of};
 
 use crate::point::Point;
-use quantities::TimeSpan;
 
-#[derive(Clone, Copy)]
+#[derive(Clone, Copy, PartialEq)]
 pub struct Cube {
     pub min: Point,
     pub max: Point,
 }
 
-// The two ends of one axis.
+// One axis, from lo up to and without hi.
 #[derive(Clone, Copy)]
-struct Ends {
+struct Interval {
     lo: f64,
     hi: f64,
+}
+
+// One of the eight parts about a point: on each axis upper, or not.
+#[derive(Clone, Copy)]
+struct Octant {
+    ack: bool,
+    send: bool,
+    ratio: bool,
 }
 
 // The child of a cube that lies toward a point, and its number.
@@ -26,44 +33,61 @@ pub struct Child {
     pub cube: Cube,
 }
 
-// min <= x < max
-fn within(min: f64, x: f64, max: f64) -> bool
-    ensures { result ≡ Interval.within min max x }
-{
-    min <= x && x < max
-}
+impl Interval {
+    fn contains(self, x: f64) -> bool
+        ensures { result ≡ within self.lo self.hi x }
+    {
+        self.lo <= x && x < self.hi
+    }
 
-// The half of lo..hi above mid, or the one below it.
-fn half(lo: f64, mid: f64, hi: f64, upper: bool) -> Ends
-    ensures { result ≡ half_of lo mid hi upper }
-{
-    if upper {
-        Ends { lo: mid, hi }
-    } else {
-        Ends { lo, hi: mid }
+    fn middle(self) -> f64
+        ensures { result ≡ middle self.lo self.hi }
+    {
+        (self.hi + self.lo) / 2.0
+    }
+
+    // The half above mid, or the one below it.
+    #[tactic(auto, unfolding(crate::specs::Cube::half_of))]
+    fn half(self, mid: f64, upper: bool) -> Interval
+        ensures { result ≡ half_of self.lo mid self.hi upper }
+    {
+        if upper {
+            Interval { lo: mid, ..self }
+        } else {
+            Interval { hi: mid, ..self }
+        }
     }
 }
 
-// The half of the cube that is upper in ack_ewma, in send_ewma and in rtt_ratio as asked.
-fn half_cube(c: Cube, mid: Point, ack: bool, send: bool, ratio: bool) -> Cube
-    ensures { result ≡ half_cube c mid ack send ratio }
-{
-    let a = half(c.min.ack_ewma.0, mid.ack_ewma.0, c.max.ack_ewma.0, ack);
-    let s = half(c.min.send_ewma.0, mid.send_ewma.0, c.max.send_ewma.0, send);
-    let r = half(c.min.rtt_ratio, mid.rtt_ratio, c.max.rtt_ratio, ratio);
-    let min = Point::new(a.lo, s.lo, r.lo);
-    let max = Point::new(a.hi, s.hi, r.hi);
-    Cube { min, max }
-}
+impl Octant {
+    // Octant k, k modulo 8.
+    fn of_number(k: u16) -> Octant
+        ensures { result ≡ octant_of k }
+    {
+        Octant {
+            ack: k / 4 % 2 == 1,
+            send: k / 2 % 2 == 1,
+            ratio: k % 2 == 1,
+        }
+    }
 
-// A child's number: 4 if upper in ack_ewma, plus 2 if upper in send_ewma, plus 1 if upper in rtt_ratio.
-fn number_of(ack: bool, send: bool, ratio: bool) -> u16
-    ensures { result ≡ number_of ack send ratio }
-{
-    let a: u16 = if ack { 4 } else { 0 };
-    let s: u16 = if send { 2 } else { 0 };
-    let r: u16 = if ratio { 1 } else { 0 };
-    a + s + r
+    // The octant about mid that holds p: on each axis upper where p is not below mid.
+    fn toward(mid: Point, p: Point) -> Octant
+        ensures { result ≡ octant_toward mid p }
+    {
+        Octant {
+            ack: mid.ack_ewma.0 <= p.ack_ewma.0,
+            send: mid.send_ewma.0 <= p.send_ewma.0,
+            ratio: mid.rtt_ratio <= p.rtt_ratio,
+        }
+    }
+
+    // 4 if upper in ack_ewma, plus 2 if upper in send_ewma, plus 1 if upper in rtt_ratio.
+    fn number(self) -> u16
+        ensures { result ≡ number_of self.ack self.send self.ratio }
+    {
+        4 * u16::from(self.ack) + 2 * u16::from(self.send) + u16::from(self.ratio)
+    }
 }
 
 impl Cube {
@@ -71,56 +95,99 @@ impl Cube {
     pub fn root(ends: Point) -> Cube
         ensures { result ≡ root_of ends }
     {
-        let min = Point::new(0.0, 0.0, 0.0);
-        Cube { min, max: ends }
+        Cube {
+            min: Point::new(0.0, 0.0, 0.0),
+            max: ends,
+        }
     }
 
+    fn ack(self) -> Interval
+        ensures { result ≡ interval (ack self.min) (ack self.max) }
+    {
+        Interval {
+            lo: self.min.ack_ewma.0,
+            hi: self.max.ack_ewma.0,
+        }
+    }
+
+    fn send(self) -> Interval
+        ensures { result ≡ interval (send self.min) (send self.max) }
+    {
+        Interval {
+            lo: self.min.send_ewma.0,
+            hi: self.max.send_ewma.0,
+        }
+    }
+
+    fn ratio(self) -> Interval
+        ensures { result ≡ interval (ratio self.min) (ratio self.max) }
+    {
+        Interval {
+            lo: self.min.rtt_ratio,
+            hi: self.max.rtt_ratio,
+        }
+    }
+
+    #[tactic(auto, unfolding(crate::specs::Cube::contains_of))]
     pub fn contains(self, p: Point) -> bool
         ensures { result ≡ contains_of self p }
     {
-        if within(self.min.ack_ewma.0, p.ack_ewma.0, self.max.ack_ewma.0) {
-            if within(self.min.send_ewma.0, p.send_ewma.0, self.max.send_ewma.0) {
-                return within(self.min.rtt_ratio, p.rtt_ratio, self.max.rtt_ratio);
-            }
-        }
-        false
+        self.ack().contains(p.ack_ewma.0)
+            && self.send().contains(p.send_ewma.0)
+            && self.ratio().contains(p.rtt_ratio)
     }
 
     // The point at which the cube is split: (max + min) / 2 on each axis.
     pub fn middle(self) -> Point
         ensures { result ≡ middle_of self }
     {
-        let ack = (self.max.ack_ewma.0 + self.min.ack_ewma.0) / 2.0;
-        let send = (self.max.send_ewma.0 + self.min.send_ewma.0) / 2.0;
-        let ratio = (self.max.rtt_ratio + self.min.rtt_ratio) / 2.0;
-        Point::new(ack, send, ratio)
+        Point::new(
+            self.ack().middle(),
+            self.send().middle(),
+            self.ratio().middle(),
+        )
+    }
+
+    // The half of the cube on each axis that lies in an octant about mid.
+    #[tactic(auto, unfolding(crate::specs::Cube::half_cube))]
+    fn half(self, mid: Point, side: Octant) -> Cube
+        ensures { result ≡ half_cube self mid side.ack side.send side.ratio }
+    {
+        let a = self.ack().half(mid.ack_ewma.0, side.ack);
+        let s = self.send().half(mid.send_ewma.0, side.send);
+        let r = self.ratio().half(mid.rtt_ratio, side.ratio);
+        Cube {
+            min: Point::new(a.lo, s.lo, r.lo),
+            max: Point::new(a.hi, s.hi, r.hi),
+        }
     }
 
     // Child k of the split, k modulo 8.
+    #[tactic(auto, unfolding(crate::specs::Cube::child_cube))]
     pub fn child(self, k: u16) -> Cube
         ensures { result ≡ child_cube self k }
     {
-        let mid = self.middle();
-        let ack = k / 4 % 2 == 1;
-        let send = k / 2 % 2 == 1;
-        let ratio = k % 2 == 1;
-        half_cube(self, mid, ack, send, ratio)
+        self.half(self.middle(), Octant::of_number(k))
     }
 
     // The eight halves, by rising number of the child.
     pub fn split(self) -> [Cube; 8]
         ensures { result ≡ split_of self }
     {
-        let m = self.middle();
+        let mid = self.middle();
+        let half = |k: u16| -> Cube
+            ensures { result ≡ half_cube self mid (octant_of k).ack (octant_of k).send (octant_of k).ratio }
+        { self.half(mid, Octant::of_number(k)) };
+        // An array literal, since the proof of `std::array::from_fn` over a closure with captures didn't close.
         [
-            half_cube(self, m, false, false, false),
-            half_cube(self, m, false, false, true),
-            half_cube(self, m, false, true, false),
-            half_cube(self, m, false, true, true),
-            half_cube(self, m, true, false, false),
-            half_cube(self, m, true, false, true),
-            half_cube(self, m, true, true, false),
-            half_cube(self, m, true, true, true),
+            half(0),
+            half(1),
+            half(2),
+            half(3),
+            half(4),
+            half(5),
+            half(6),
+            half(7),
         ]
     }
 
@@ -129,11 +196,10 @@ impl Cube {
         ensures { result ≡ toward_of self p }
     {
         let mid = self.middle();
-        let ack = mid.ack_ewma.0 <= p.ack_ewma.0;
-        let send = mid.send_ewma.0 <= p.send_ewma.0;
-        let ratio = mid.rtt_ratio <= p.rtt_ratio;
-        let number = number_of(ack, send, ratio);
-        let cube = half_cube(self, mid, ack, send, ratio);
-        Child { number, cube }
+        let side = Octant::toward(mid, p);
+        Child {
+            number: side.number(),
+            cube: self.half(mid, side),
+        }
     }
 }

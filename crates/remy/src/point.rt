@@ -1,10 +1,11 @@
 // A point of a sender's memory.
 ghost use Rattle.std.specs.Prelude.{◌≡◌};
-ghost use Rattle.remy.specs.Cube.{usual_ends, point_of, point_equal, end_admitted, ends_admitted};
+ghost use Rattle.remy.specs.Cube.{usual_ends, point_of, end_admitted, ends_admitted};
 
 use quantities::TimeSpan;
 
-#[derive(Clone, Copy)]
+// `==` is equality on each axis.
+#[derive(Clone, Copy, PartialEq)]
 pub struct Point {
     pub ack_ewma: TimeSpan,
     pub send_ewma: TimeSpan,
@@ -29,36 +30,19 @@ impl Point {
         Point::new(600.0, 600.0, 1000.0)
     }
 
-    // Equal on each axis.
-    pub fn equals(self, other: Point) -> bool
-        ensures { result ≡ point_equal self other }
-    {
-        if self.ack_ewma.0 == other.ack_ewma.0 {
-            if self.send_ewma.0 == other.send_ewma.0 {
-                return self.rtt_ratio == other.rtt_ratio;
-            }
-        }
-        false
-    }
-
     // Upper ends that a box may have.
+    #[tactic(auto, unfolding(crate::specs::Cube::ends_admitted))]
     pub fn ends_admitted(self) -> bool
         ensures { result ≡ ends_admitted self }
     {
-        if end_admitted(self.ack_ewma.0) {
-            if end_admitted(self.send_ewma.0) {
-                return end_admitted(self.rtt_ratio);
-            }
-        }
-        false
+        end_admitted(self.ack_ewma.0)
+            && end_admitted(self.send_ewma.0)
+            && end_admitted(self.rtt_ratio)
     }
 }
 
 fn end_admitted(x: f64) -> bool
     ensures { result ≡ end_admitted x }
 {
-    if 1.0 <= x {
-        return x <= 1000000.0;
-    }
-    false
+    1.0 <= x && x <= 1000000.0
 }

@@ -1,12 +1,14 @@
 -- `held` clips at both ends of 0..=1,000,000. Assumes nothing.
-use Rattle.remy.proofs.Window.{held_below, held_above, held_inside}
+use mathlib.Core.Path.{ap, ◌∙◌}
+use lib.IntN.{ℤ, pos}
+use mir.Syntax.{w64}
+use mir.ValLaws.{to_z-of_z}
+use Rattle.std.specs.Int.{int_min, int_max}
+use Rattle.remy.proofs.Window.{held_clipped, held_kept}
 use Rattle.remy.proofs.action.held.Goals as goal
 
-pub returns-then-sum-lt0 : goal.returns-then-sum-lt0
-returns-then-sum-lt0 c = held_below _ _ c.ranges.sum c.if-sum-lt0.true
+pub returns-then-window-sum : goal.returns-then-window-sum
+returns-then-window-sum c = held_clipped _ _ _ c.ranges.sum (c.clamp-window.ensures.value ∙ ap (λ (z : ℤ). int_max (pos 0) (int_min z (pos 1000000))) (to_z-of_z w64 _ c.ranges.sum)) c.if-window-sum.true
 
-pub returns-then-sum-gt1000000 : goal.returns-then-sum-gt1000000
-returns-then-sum-gt1000000 c = held_above _ _ c.ranges.sum c.if-sum-gt1000000.true
-
-pub returns : goal.returns
-returns c = held_inside _ c.ranges.sum c.if-sum-lt0.false c.if-sum-gt1000000.false _
+pub returns-else-window-sum : goal.returns-else-window-sum
+returns-else-window-sum c = held_kept _ _ _ c.ranges.sum (c.clamp-window.ensures.value ∙ ap (λ (z : ℤ). int_max (pos 0) (int_min z (pos 1000000))) (to_z-of_z w64 _ c.ranges.sum)) c.if-window-sum.false

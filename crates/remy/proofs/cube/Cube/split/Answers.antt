@@ -1,7 +1,10 @@
 -- `Cube::split` gives the eight halves about one middle. Assumes nothing.
-use Rattle.remy.proofs.Halves.{split_is}
+use Rattle.remy.specs.Cube.{split_of}
+use Rattle.remy.proofs.Halves.{part_is}
 use Rattle.remy.proofs.cube.Cube.split.Goals as goal
 
 pub returns : goal.returns
+unfolding split_of
 returns c =
-    split_is _ _ _ _ _ _ _ _ _ _ c.middle-m.ensures c.half_cube.ensures c.half_cube-2.ensures c.half_cube-3.ensures c.half_cube-4.ensures c.half_cube-5.ensures c.half_cube-6.ensures c.half_cube-7.ensures c.half_cube-8.ensures
+    let k = part_is _ _ c.middle-mid.ensures in
+    rw (k 0 _ c.half.ensures, k 1 _ c.half-2.ensures, k 2 _ c.half-3.ensures, k 3 _ c.half-4.ensures, k 4 _ c.half-5.ensures, k 5 _ c.half-6.ensures, k 6 _ c.half-7.ensures, k 7 _ c.half-8.ensures)

@@ -3,4 +3,4 @@ use Rattle.remy.proofs.Halves.{toward_is}
 use Rattle.remy.proofs.cube.Cube.toward.Goals as goal
 
 pub returns : goal.returns
-returns c = toward_is _ _ _ _ _ c.middle-mid.ensures c.number_of-number.ensures c.half_cube-cube.ensures
+returns c = toward_is _ _ _ _ _ _ c.middle-mid.ensures c.toward-side.ensures c.number.ensures c.half.ensures

@@ -1,0 +1,8 @@
+-- `Interval::middle` halves the sum of the ends. Assumes nothing.
+use mathlib.Core.Path.{refl}
+use lib.Ieee.{of_bits}
+use Rattle.remy.proofs.cube.Interval.middle.Goals as goal
+
+pub returns : goal.returns
+unfolding of_bits
+returns c = refl
