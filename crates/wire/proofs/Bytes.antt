@@ -1,5 +1,5 @@
 -- Big-endian bytes: their count and range, the number that they stand for, and when two lists are the same. Assumes nothing.
-use mathlib.Core.Path.{◌≡◌, refl, sym, ap, subst, ◌∙◌}
+use mathlib.Core.Path.{◌≡◌, refl, sym, ap, ◌∙◌}
 use mathlib.Core.Bool.{Bool, true, false, ◌&&◌}
 use mathlib.Core.List.{List, [], ◌∷◌, ◌++◌, append_assoc, append-nil}
 use Prim.Native.Nat.{ℕ, zero, suc, ◌+◌, ◌*◌, ◌/◌, ◌%◌, ◌^◌, ◌<◌, ◌≤◌}
@@ -8,8 +8,10 @@ use native.Mathlib.Numerals.{add-one}
 use native.Mathlib.Omega.{arith}
 use borrow.Author.Tests.{eq-eqb, eqb-true}
 use lib.Dec.{eqb}
-use lib.ListN.{length, get_or, take, drop, length-append, length-drop}
-use lib.Seq.{take_at, take_all, take-suc, get_or-drop, ext_get_or}
+use Rattle.std.specs.Prelude.{◌==◌}
+use Rattle.std.specs.Cmp.Lexicographic.{pointwise}
+use lib.ListN.{length, get_or, take, drop, length-append, length-drop, length-take}
+use lib.Seq.{take_at, take_all, take-suc, get_or-drop}
 use Rattle.wire.specs.Bytes.{bytes_of, shorts_bytes, value_from, number_at, same_bytes}
 
 -- ---- the bytes of a number
@@ -101,49 +103,58 @@ false_of false h = refl
 pub same_not : (xs ys : List ℕ) → (xs ≡ ys → ⊥) → same_bytes xs ys ≡ false
 same_not xs ys h = false_of (same_bytes xs ys) (λ e. h (same_is xs ys e))
 
-pub same_length_not : (xs ys : List ℕ) → (length xs ≡ length ys → ⊥) → false ≡ same_bytes xs ys
-same_length_not xs ys h = sym (same_not xs ys (λ e. h (ap length e)))
-
-pub same_at_not : (xs ys : List ℕ) (i : ℕ) → (get_or xs i 0 ≡ get_or ys i 0 → ⊥) → false ≡ same_bytes xs ys
-same_at_not xs ys i h = sym (same_not xs ys (λ e. h (ap (λ (r : List ℕ). get_or r i 0) e)))
-
-pub same_all : (xs ys : List ℕ) (i : ℕ) → length xs ≡ length ys → length xs ≤ i → ((k : ℕ) → k < i → get_or xs k 0 ≡ get_or ys k 0)
-    → true ≡ same_bytes xs ys
-same_all xs ys i e l h = sym (same_of xs ys (ext_get_or 0 xs ys e (λ k b. h k (omega arith))))
+-- `a == b` of two slices
+pub same_tested : (xs ys : List ℕ) → pointwise ◌==◌ xs ys ≡ same_bytes xs ys
+unfolding same_bytes
+same_tested [] [] = refl
+same_tested [] (y ∷ ys) = refl
+same_tested (x ∷ xs) [] = refl
+same_tested (x ∷ xs) (y ∷ ys) = ap (λ (b : Bool). eqb x y && b) (same_tested xs ys)
 
 -- ---- reading a number byte by byte
 pub number_none : (bytes : List ℕ) (at : ℕ) → 0 ≡ number_at bytes at 0
 unfolding value_from
 number_none bytes at = refl
 
+value_more : (bs : List ℕ) (i x : ℕ) → i < length bs → x ≡ value_from 0 (take i bs) → x * 256 + get_or bs i 0 ≡ value_from 0 (take (i + 1) bs)
+unfolding value_from
+value_more bs i x l e =
+    let t : take (i + 1) bs ≡ take i bs ++ (get_or bs i 0 ∷ []) = ap (λ (k : ℕ). take k bs) (add-one i) ∙ take-suc bs i 0 l in
+    sym (ap (value_from 0) t ∙ value_append 0 (take i bs) (get_or bs i 0 ∷ []) ∙ omega arith)
+
 pub number_more : (bytes : List ℕ) (at i x : ℕ) → at + i < length bytes → x ≡ number_at bytes at i
     → x * 256 + get_or bytes (at + i) 0 ≡ number_at bytes at (i + 1)
-unfolding value_from
 number_more bytes at i x l e =
-    let r = drop at bytes in
-    let t : take (i + 1) r ≡ take i r ++ (get_or r i 0 ∷ []) =
-    ap (λ (k : ℕ). take k r) (add-one i) ∙ take-suc r i 0 (omega (arith, length-drop at bytes)) in
-    sym (ap (value_from 0) t ∙ value_append 0 (take i r) (get_or r i 0 ∷ []) ∙ omega (arith, get_or-drop at bytes i 0))
+    ap (λ (b : ℕ). x * 256 + b) (sym (get_or-drop at bytes i 0)) ∙ value_more (drop at bytes) i x (omega (arith, length-drop at bytes)) e
 
-pub number_short : (bytes : List ℕ) (at i n x : ℕ) → length bytes ≤ at + i → i ≤ n → x ≡ number_at bytes at i → x ≡ number_at bytes at n
-number_short bytes at i n x l h e =
-    let r = drop at bytes in
-    let d = length-drop at bytes in
-    e ∙ ap (value_from 0) (take_all i r (omega arith) ∙ sym (take_all n r (omega arith)))
+-- x is the number in the first i of some bytes
+pub record Read (bs : List ℕ) (i x : ℕ) : Type 0 where
+  pub value : x ≡ value_from 0 (take i bs)
+  pub below : x < 256 ^ i
 
-pub below_more : (i x b : ℕ) → x < 256 ^ i → b < 256 → x * 256 + b < 256 ^ (i + 1)
-below_more i x b h l =
+pub read_none : (bs : List ℕ) → Read bs 0 0
+unfolding value_from
+read_none bs = record { value = refl; below = omega arith }
+
+pub read_more : (bs : List ℕ) (i x b : ℕ) → i < length bs → Read bs i x → b ≡ get_or bs i 0 → b < 256 → Read bs (i + 1) (x * 256 + b)
+read_more bs i x b l r e h =
+    let u = r.below in
     let p : 256 ^ (i + 1) ≡ 256 ^ i * 256 = ap (λ (k : ℕ). 256 ^ k) (add-one i) ∙ pow-suc 256 i in
-    omega arith
+    record { value = ap (λ (k : ℕ). x * 256 + k) e ∙ value_more bs i x l r.value; below = omega arith }
 
 pub below_most : (i n x : ℕ) → x < 256 ^ i → i ≤ n → x < 256 ^ n
 below_most i n x h l = let p : 256 ^ i ≤ 256 ^ n = pow-le-pow_right (omega arith) l in omega arith
 
-pub below_seven : (i x : ℕ) → x < 256 ^ i → i < 8 → x < 72057594037927936
-below_seven i x h l = below_most i 7 x h (omega arith)
+-- the most that is read before the last of eight bytes
+pub read_seven : (bs : List ℕ) (i x : ℕ) → Read bs i x → i < 8 → x < 72057594037927936
+read_seven bs i x r h = below_most i 7 x r.below (omega arith)
 
-pub number_all : (bytes : List ℕ) (at i n x : ℕ) → i ≤ n → n ≤ i → x ≡ number_at bytes at i → x < 256 ^ i
+-- bytes of a list that are none or n at most
+pub field_length : (bytes : List ℕ) (at n : ℕ) {bs : List ℕ} → bs ≡ take n (drop at bytes) → length bs ≤ n
+field_length bytes at n e = omega (arith, ap length e, length-take n (drop at bytes))
+
+pub read_all : (bs : List ℕ) (i x : ℕ) (bytes : List ℕ) (at n : ℕ) → bs ≡ take n (drop at bytes) → Read bs i x → length bs ≤ i → i ≤ length bs
     → (x ≡ number_at bytes at n) × (x < 256 ^ n)
-number_all bytes at i n x a b e h =
-    let p : i ≡ n = omega arith in
-    (e ∙ ap (number_at bytes at) p, subst (λ (k : ℕ). x < 256 ^ k) p h)
+read_all bs i x bytes at n e r h m =
+    let l = field_length bytes at n e in
+    (r.value ∙ ap (value_from 0) (take_all i bs h ∙ e), below_most i n x r.below (omega arith))

@@ -1,4 +1,3 @@
 pub mod Bytes
-pub mod Signed
 pub mod Stores
 pub mod Fields

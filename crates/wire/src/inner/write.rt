@@ -1,8 +1,6 @@
 // Stores from a place on. What is not written stays.
 ghost use Rattle.std.specs.Prelude.{◌≡◌, ◌+◌, ◌≤◌, length};
 ghost use Rattle.std.proofs.lemmas.List.Edits.{sets};
-ghost use Rattle.std.specs.Int.{w32};
-ghost use Rattle.std.proofs.Common.{of_z};
 ghost use Rattle.wire.specs.Bytes.{bytes_of, flag_byte};
 ghost use Rattle.wire.specs.Fields.{action_bytes, point_bytes};
 
@@ -14,31 +12,17 @@ pub fn put(buf: &mut [u8], at: usize, n: usize, x: u64)
     requires { at + n ≤ length buf.old }
     ensures { buf.new ≡ sets buf.old at (bytes_of n x) }
 {
-    let mut left = n;
     let mut rest = x;
-    while left > 0 {
-        left -= 1;
-        buf[at + left] = (rest % 256) as u8;
-        rest = rest / 256;
-    }
-}
-
-// The 32 bits of x.
-pub fn bits_of(x: i32) -> u64
-    ensures { result ≡ of_z w32 x }
-{
-    let wide = x as i64;
-    if wide < 0 {
-        (wide + 4294967296) as u64
-    } else {
-        wide as u64
+    for i in (0..n).rev() {
+        buf[at + i] = (rest % 256) as u8;
+        rest /= 256;
     }
 }
 
 pub fn flag_of(b: bool) -> u8
     ensures { result ≡ flag_byte b }
 {
-    if b { 1 } else { 0 }
+    u8::from(b)
 }
 
 pub fn put_action(buf: &mut [u8], at: usize, a: Action)
@@ -46,10 +30,10 @@ pub fn put_action(buf: &mut [u8], at: usize, a: Action)
     ensures { buf.new ≡ sets buf.old at (action_bytes a) }
 {
     let multiplier = floats::to_bits(a.window_multiplier);
-    let increment = bits_of(a.window_increment);
+    let increment = a.window_increment.cast_unsigned();
     let delay = floats::to_bits(a.intersend_delay.0);
     put(buf, at, 8, multiplier);
-    put(buf, at + 8, 4, increment);
+    put(buf, at + 8, 4, u64::from(increment));
     put(buf, at + 12, 8, delay);
 }
 

@@ -1,30 +1,32 @@
 -- `number_at` reads byte by byte. Assumes nothing.
-use Rattle.std.proofs.Common.{rules, arith, ◌+◌}
+use Rattle.std.proofs.Common.{arith}
 use Rattle.wire.proofs.Bytes as law
 use Rattle.wire.proofs.inner.read.number_at.Goals as goal
 
-pub loop-i-init : goal.loop-i-init
-loop-i-init c = (search rules, law.number_none c.args.bytes.now c.args.at, search rules)
-
-pub returns-then-bytes-place : goal.returns-then-bytes-place
-returns-then-bytes-place c = (
-  law.number_short _ _ c.loop-i.i _ _ c.if-bytes-place.true c.loop-i.invariant.0 c.loop-i.invariant.1,
-  law.below_most c.loop-i.i _ _ c.loop-i.invariant.2 c.loop-i.invariant.0,
-)
+pub loop-b-init : goal.loop-b-init
+loop-b-init c = law.read_none _
 
 pub overflow_mul-x : goal.overflow_mul-x
-overflow_mul-x c = omega (arith, law.below_seven c.loop-i.i c.loop-i.x c.loop-i.invariant.2 (search rules))
+overflow_mul-x c =
+    let l = law.field_length c.args.bytes.now c.args.at c.args.n c.field-b-items.ensures in
+    omega (arith, law.read_seven _ c.loop-b.b-index c.loop-b.x c.loop-b.invariant (omega arith))
 
 pub overflow_add-x : goal.overflow_add-x
-overflow_add-x c = omega (
-  arith,
-  law.below_seven c.loop-i.i c.loop-i.x c.loop-i.invariant.2 (search rules),
-  c.type_inv.bytes (c.args.at + c.loop-i.i),
-)
+overflow_add-x c =
+    let l = law.field_length c.args.bytes.now c.args.at c.args.n c.field-b-items.ensures in
+    omega (
+      arith,
+      law.read_seven _ c.loop-b.b-index c.loop-b.x c.loop-b.invariant (omega arith),
+      c.from.ensures,
+      c.type_inv.b-items c.loop-b.b-index,
+    )
 
-pub loop-i-preserved : goal.loop-i-preserved
-loop-i-preserved c = (
-  search rules,
-  law.number_more _ _ _ _ c.if-bytes-place.false c.loop-i.invariant.1,
-  law.below_more _ _ _ c.loop-i.invariant.2 (c.type_inv.bytes (c.args.at + c.loop-i.i)).fits,
-)
+pub loop-b-preserved : goal.loop-b-preserved
+loop-b-preserved c =
+    law.read_more _ _ _ _ c.loop-b-test.true c.loop-b.invariant c.from.ensures
+    (omega (arith, c.from.ensures, c.type_inv.b-items c.loop-b.b-index))
+
+pub returns : goal.returns
+returns c =
+    law.read_all _ _ _ c.args.bytes.now c.args.at c.args.n c.field-b-items.ensures c.loop-b.invariant c.loop-b-test.false
+    c.loop-b.auto.b-index-end
