@@ -1,5 +1,5 @@
 -- 02, wish 7: an ack with a draw of the box's own.
-use Rattle.std.specs.Prelude.{Bool, true, false, not, cond, List, [], ◌∷◌, ℕ, Float}
+use Rattle.std.specs.Prelude.{Bool, true, false, not, cond, List, [], ◌∷◌, ℕ, Float, Option, Some, None}
 use Rattle.refusal.specs.Numbers.{not_grown, zero_state}
 use Rattle.refusal.specs.Guards.{Test, test, guarded}
 use Rattle.rule_tree.specs.declared.RuleTree.{RuleTree}
@@ -15,8 +15,6 @@ use Rattle.sender.specs.declared.Reply.{Reply}
 use Rattle.sender.specs.declared.Reply.TheVariants.{Taken, Refused}
 use Rattle.sender.specs.Sender.{ack_of}
 use Rattle.xoshiro.specs.declared.State.{State}
-use Rattle.xoshiro.specs.declared.Drawn.{Drawn}
-use Rattle.xoshiro.specs.declared.Drawn.TheVariants.{Number, Nothing}
 use Rattle.xoshiro.specs.Xoshiro.{zeros_of, output_of, next_of, draw_of}
 use Rattle.own_draws.specs.declared.Drawing.{Drawing}
 
@@ -27,9 +25,9 @@ abbrev pub refused_with : State → ℕ → Drawing
 refused_with g k = drawing (Refused k) g
 
 -- "where a sender handed in holds lo above hi there is none, and one due counts as absent (5)"
-unfoldable pub handed_as : Drawn → Draw
-handed_as (Number n) = Given n
-handed_as Nothing = Absent
+unfoldable pub handed_as : Option ℕ → Draw
+handed_as (Some n) = Given n
+handed_as None = Absent
 
 -- "A draw for lo..=hi is lo plus the output modulo hi - lo + 1"; with off and always none is due
 unfoldable pub draw_in : RepeatMode → ℕ → Draw

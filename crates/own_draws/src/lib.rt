@@ -4,6 +4,7 @@
 ghost use Rattle.std.specs.Prelude.{◌≡◌};
 ghost use Rattle.own_draws.specs.OwnDraws.{own_ack_of};
 
+use refusal::Refusal;
 use rule_tree::RuleTree;
 use sender::{Reply, Sender};
 use xoshiro::State;
@@ -18,6 +19,7 @@ pub struct Drawing {
 }
 
 // An ack of what was sent at a moment, received at another, over a tree; a due draw is the generator's.
+#[tactic(auto, unfolding(crate::specs::OwnDraws::own_ack_of, refusal::specs::Numbers::number_of))]
 pub fn ack_received(
     s: Sender,
     generator: State,
@@ -27,11 +29,11 @@ pub fn ack_received(
 ) -> Drawing
     ensures { result ≡ own_ack_of tree s generator sent received }
 {
-    if tree.grown() {
-        if xoshiro::inner::zeros(generator) {
-            return inner::refused(refusal::ZERO_STATE, generator);
-        }
-        return inner::taken(tree, s, generator, sent, received);
+    if !tree.grown() {
+        return inner::refused(Refusal::NotGrown, generator);
     }
-    inner::refused(refusal::NOT_GROWN, generator)
+    if xoshiro::inner::zeros(generator) {
+        return inner::refused(Refusal::ZeroState, generator);
+    }
+    inner::taken(tree, s, generator, sent, received)
 }

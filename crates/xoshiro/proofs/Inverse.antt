@@ -1,9 +1,10 @@
 -- The step back and the step undo each other. Assumes nothing.
 use Rattle.std.proofs.Common.{◌≡◌, ℕ, ◌^◌, ◌<◌, ap, ◌∙◌, ap₂}
+use Rattle.std.specs.Int.Bits.{xor_assoc}
 use lib.Bits.{bit_xor, xor_comm, xor_lt}
 use Rattle.xoshiro.specs.declared.State.{State}
 use Rattle.xoshiro.specs.Xoshiro.{shifted, rotated, smeared, next_of, back_of}
-use Rattle.xoshiro.proofs.Words.{xor_assoc, xor_undo, xor_back, xor_meet, smeared_undo, smeared_back, rotated_undo, rotated_back}
+use Rattle.xoshiro.proofs.Words.{xor_undo, xor_back, xor_meet, smeared_undo, smeared_back, rotated_undo, rotated_back}
 
 -- the words of a state have 64 bits, as in every state that a program holds
 pub record Held (s : State) : Type 0 where

@@ -1,5 +1,6 @@
 -- Only the state of four zeros steps to it, or back to it. Assumes nothing.
-use Rattle.std.proofs.Common.{◌≡◌, ℕ, ◌^◌, ◌<◌, Bool, true, false, ◌&&◌, eqb, sym, refl, ap, ◌∙◌, arith, eqb-true}
+use Rattle.std.proofs.Common.{◌≡◌, ℕ, ◌^◌, ◌<◌, Bool, true, false, sym, refl, ap, ◌∙◌, arith}
+use Rattle.std.proofs.lemmas.Bool.Decides.{nat_tests}
 use lib.Bits.{bit_xor, xor_zero_r}
 use Rattle.xoshiro.specs.declared.State.{State}
 use Rattle.xoshiro.specs.Xoshiro.{shifted, rotated, smeared, zeros, zeros_of, next_of, back_of}
@@ -39,23 +40,19 @@ pub zeros_before : (s : State) → Held s → back_of s ≡ zeros → s ≡ zero
 zeros_before s h e = sym (step_back s h) ∙ ap next_of e
 
 -- the test says it of the words
-both : (a b : Bool) → a && b ≡ true → (a ≡ true) × (b ≡ true)
-both true b e = (refl, e)
-both false b e = absurd (let z : ◌≡◌ {A = ℕ} 0 1 = cc in omega arith)
-
 pub zeros_told : (s : State) → zeros_of s ≡ true → s ≡ zeros
 unfolding zeros_of
-zeros_told s e =
-    let a = both (eqb s.s0 0) _ e in
-    let b = both (eqb s.s1 0) _ a.1 in
-    let c = both (eqb s.s2 0) _ b.1 in
-    same s (eqb-true _ 0 a.0) (eqb-true _ 0 b.0) (eqb-true _ 0 c.0) (eqb-true _ 0 c.1)
+zeros_told s e = same s (grind (arith, nat_tests)) (grind (arith, nat_tests)) (grind (arith, nat_tests)) (grind (arith, nat_tests))
 
--- so a state that passes the test passes it after every step
-pub never_zeros : (s : State) → zeros_of s ≡ false → zeros_of (next_of s) ≡ false
+-- a state that passes the test passes it after what leads to four zeros from four zeros alone
+pub passing : (s t : State) → (t ≡ zeros → s ≡ zeros) → zeros_of s ≡ false → zeros_of t ≡ false
 unfolding zeros_of
-never_zeros s e = go (zeros_of (next_of s)) refl
+passing s t only e = go (zeros_of t) refl
   where
-    go : (b : Bool) → zeros_of (next_of s) ≡ b → b ≡ false
+    go : (b : Bool) → zeros_of t ≡ b → b ≡ false
     go false f = refl
-    go true f = sym (ap zeros_of (zeros_only s (zeros_told (next_of s) f))) ∙ e
+    go true f = sym (ap zeros_of (only (zeros_told t f))) ∙ e
+
+-- so after every step
+pub never_zeros : (s : State) → zeros_of s ≡ false → zeros_of (next_of s) ≡ false
+never_zeros s e = passing s (next_of s) (zeros_only s) e

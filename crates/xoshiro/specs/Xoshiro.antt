@@ -1,9 +1,7 @@
 -- 02, wish 7: "the public generator xoshiro256++ of Blackman and Vigna, where sums wrap at 64 bits and words are rotated by 23 and 45".
-use Rattle.std.specs.Prelude.{ℕ, ◌+◌, ◌-◌, ◌*◌, ◌/◌, ◌%◌, ◌^◌, Bool, cond, ◌&&◌, ◌==◌, bit_xor, nat_le}
+use Rattle.std.specs.Prelude.{ℕ, ◌+◌, ◌-◌, ◌*◌, ◌/◌, ◌%◌, ◌^◌, Bool, cond, ◌&&◌, ◌==◌, bit_xor, nat_le, Option, Some, None}
 use Rattle.xoshiro.specs.declared.State.{State}
 use Rattle.xoshiro.specs.declared.Stepped.{Stepped}
-use Rattle.xoshiro.specs.declared.Drawn.{Drawn}
-use Rattle.xoshiro.specs.declared.Drawn.TheVariants.{Number, Nothing}
 
 -- words of 64 bits: a sum that wraps; x << k; x rotated left by k, for k above 0 and below 64
 abbrev pub wrapped : ℕ → ℕ → ℕ
@@ -51,5 +49,5 @@ unfoldable pub zeros_of : State → Bool
 zeros_of s = s.s0 == 0 && (s.s1 == 0 && (s.s2 == 0 && s.s3 == 0))
 
 -- "A draw for lo..=hi is lo plus the output modulo hi - lo + 1; where a sender handed in holds lo above hi there is none"
-unfoldable pub draw_of : ℕ → ℕ → ℕ → Drawn
-draw_of output lo hi = cond (nat_le lo hi) (Number (lo + output % (hi - lo + 1))) Nothing
+unfoldable pub draw_of : ℕ → ℕ → ℕ → Option ℕ
+draw_of output lo hi = cond (nat_le lo hi) (Some (lo + output % (hi - lo + 1))) None

@@ -1,7 +1,8 @@
 // xoshiro256++ from the words 1, 2, 3, 4, printed: ten outputs, the words after them and after as many steps back, draws, and what is refused.
 #![tactic(auto)]
 
-use xoshiro::{Drawn, Made, State, Turn};
+use refusal::Refusal;
+use xoshiro::State;
 
 fn say(text: &[u8]) {
     io::write_all(1, text);
@@ -11,18 +12,18 @@ fn number(n: u64) {
     io::print_decimal(1, n);
 }
 
-fn refused(n: u32) {
+fn refused(r: Refusal) {
     say(b"refused ");
-    number(n as u64);
+    number(u64::from(r.number()));
     say(b"\n");
 }
 
 // Where there is no such state, four zeros.
-fn state(m: Made) -> State {
-    match m {
-        Made::Ready(s) => s,
-        Made::Refused(n) => {
-            refused(n);
+fn state(answer: Result<State, Refusal>) -> State {
+    match answer {
+        Ok(s) => s,
+        Err(r) => {
+            refused(r);
             State {
                 s0: 0,
                 s1: 0,
@@ -47,49 +48,45 @@ fn words(s: State) {
 // A step's output; then the state after it.
 fn step(s: State) -> State {
     match s.step() {
-        Turn::Taken(stepped) => {
+        Ok(stepped) => {
             number(stepped.output);
             say(b"\n");
             stepped.state
         }
-        Turn::Refused(n) => {
-            refused(n);
+        Err(r) => {
+            refused(r);
             s
         }
     }
 }
 
-fn five_steps(s: State) -> State {
-    let s = step(s);
-    let s = step(s);
-    let s = step(s);
-    let s = step(s);
-    step(s)
+fn ten_steps(mut s: State) -> State {
+    for _ in 0..10 {
+        s = step(s);
+    }
+    s
 }
 
-fn five_back(s: State) -> State {
-    let s = state(s.step_back());
-    let s = state(s.step_back());
-    let s = state(s.step_back());
-    let s = state(s.step_back());
-    state(s.step_back())
+fn ten_back(mut s: State) -> State {
+    for _ in 0..10 {
+        s = state(s.step_back());
+    }
+    s
 }
 
 fn draw(output: u64, lo: u32, hi: u32) {
     match xoshiro::draw(output, lo, hi) {
-        Drawn::Number(n) => number(n as u64),
-        Drawn::Nothing => say(b"none"),
+        Some(n) => number(u64::from(n)),
+        None => say(b"none"),
     }
     say(b"\n");
 }
 
 fn main() {
     let seed = state(State::new(1, 2, 3, 4));
-    let s = five_steps(seed);
-    let s = five_steps(s);
+    let s = ten_steps(seed);
     words(s);
-    let s = five_back(s);
-    words(five_back(s));
+    words(ten_back(s));
     draw(3588806011781223, 10, 12);
     draw(3588806011781223, 0, 4294967295);
     draw(3588806011781223, 7, 7);
