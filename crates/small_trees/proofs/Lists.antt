@@ -10,10 +10,10 @@ use lib.ListN.{length}
 use Rattle.rule_tree.specs.Lists.{all_below}
 use Rattle.rule_tree.proofs.Lists.{all_below_at}
 use Rattle.rule_tree.proofs.Counting.{and_left, and_right}
-use Rattle.small_trees.specs.declared.After.TheVariants.{Last}
+use Rattle.std.specs.Prelude.{Some, None, Ok}
 use Rattle.small_trees.specs.Lists.{up_to, same, is_growth}
 use Rattle.small_trees.specs.Order.{rises, times_in, walked}
-use Rattle.small_trees.proofs.Tables.{implied, never, all_of, all_growths, same_is}
+use Rattle.small_trees.proofs.Tables.{implied, all_of, all_growths, same_is}
 use Rattle.small_trees.proofs.Growing.{growth_short, growth_first, growth_second, growth_third}
 
 -- "For n = 3 there are 130"
@@ -30,7 +30,7 @@ pub in_order : (n : ℕ) → n ≤ 3 → rises (up_to n) ≡ true
 in_order n l = all_below_at 4 n (λ k. rises (up_to k)) all_rise (omega arith)
 
 -- the calls from [] go through the lists and end with the last: no more than 200 are wanted
-pub gone_through : (n : ℕ) → n ≤ 3 → walked n 200 [] ≡ record { lists = up_to n; ended = Last }
+pub gone_through : (n : ℕ) → n ≤ 3 → walked n 200 [] ≡ record { lists = up_to n; ended = Some (Ok None) }
 unfolding walked up_to
 gone_through zero l = refl
 gone_through (suc zero) l = refl
@@ -111,7 +111,7 @@ none_times p x [] a h = refl
 none_times p x (y ∷ ys) a h = by (same x y) refl (none_times p x ys (and_right (p y) (all_of p ys) a) h)
   where
     by : (b : Bool) → same x y ≡ b → times_in ys x ≡ 0 → cond b 1 0 + times_in ys x ≡ 0
-    by true e r = never (sym (subst (λ (z : List ℕ). p z ≡ false) (same_is x y e) h) ∙ and_left (p y) (all_of p ys) a)
+    by true e r = let z : false ≡ true = sym (subst (λ (z : List ℕ). p z ≡ false) (same_is x y e) h) ∙ and_left (p y) (all_of p ys) a in cc
     by false e r = omega arith
 
 pub no_other : (n : ℕ) (x : List ℕ) → n ≤ 3 → is_growth n x ≡ false → times_in (up_to n) x ≡ 0

@@ -1,9 +1,8 @@
 -- The order of the lists, and the calls one after another.
-use Rattle.std.specs.Prelude.{Bool, true, false, ◌&&◌, ◌||◌, cond, List, [], ◌∷◌, ℕ, zero, suc, ◌+◌, length, eqb, ltb}
-use Rattle.small_trees.specs.declared.After.{After}
-use Rattle.small_trees.specs.declared.After.TheVariants.{Next, Last, Refused}
+use Rattle.std.specs.Prelude.{Bool, true, false, ◌&&◌, ◌||◌, cond, List, [], ◌∷◌, ℕ, zero, suc, ◌+◌, length, eqb, ltb, Option, Some, None, Result, Ok, Err}
+use Rattle.refusal.specs.declared.Refusal.{Refusal}
 use Rattle.small_trees.specs.Lists.{same}
-use Rattle.small_trees.specs.Calls.{next_of, unpacked}
+use Rattle.small_trees.specs.Calls.{next_of}
 
 -- "then by their node numbers in order"
 unfoldable pub lower : List ℕ → List ℕ → Bool
@@ -32,19 +31,19 @@ unfolding same
 times_in [] x = 0
 times_in (y ∷ ys) x = cond (same x y) 1 0 + times_in ys x
 
--- x and what at most f calls give from it, each taking what the one before gave; and the last answer that is no list
+-- x and what at most f calls give from it, each taking what the one before gave; and the first answer that is no list, if there is one
 pub record Walk : Type 0 where
   pub lists : List (List ℕ)
-  pub ended : After
+  pub ended : Option (Result (Option (List ℕ)) Refusal)
 
-unfoldable pub onward : (List ℕ → Walk) → After → Walk
-onward go (Next s) = go (unpacked s)
-onward go Last = record { lists = []; ended = Last }
-onward go (Refused k) = record { lists = []; ended = Refused k }
+unfoldable pub onward : (List ℕ → Walk) → Result (Option (List ℕ)) Refusal → Walk
+onward go (Ok (Some x)) = go x
+onward go (Ok None) = record { lists = []; ended = Some (Ok None) }
+onward go (Err r) = record { lists = []; ended = Some (Err r) }
 
 unfoldable pub walked : ℕ → ℕ → List ℕ → Walk
 unfolding next_of onward
-walked n zero x = record { lists = []; ended = Refused 0 }
+walked n zero x = record { lists = []; ended = None }
 walked n (suc f) x =
     let w = onward (λ y. walked n f y) (next_of n x) in
     record { lists = x ∷ w.lists; ended = w.ended }

@@ -1,149 +1,141 @@
 // Every small tree in turn: the lists of at most three splits, shorter first and then by their node numbers.
 #![tactic(auto)]
 
-ghost use Rattle.std.specs.Prelude.{◌≡◌, [], ◌∷◌, ◌≤◌};
-ghost use Rattle.small_trees.specs.Calls.{next_of, list_of};
+ghost use Rattle.std.specs.Prelude.{◌≡◌, ◌≢◌, [], ◌∷◌, ◌≤◌, Ok, length};
+ghost use Rattle.small_trees.specs.Calls.{next_of};
+
+use refusal::Refusal;
+use std::marker::Model;
 
 // The most splits of a list.
 pub const MOST_LISTED: u32 = 3;
 
-// The first count of the three are the list, the others are 0.
-#[derive(Clone, Copy)]
+// A list of at most three splits, each of a node that is a leaf then. It stands in an array, since a library has no heap.
+#[derive(Drop)]
 pub struct SplitList {
-    pub count: u16,
-    pub first: u16,
-    pub second: u16,
-    pub third: u16,
+    nodes: [u16; 3],
+    count: usize,
 }
 
-// What comes after a list.
-#[derive(Clone, Copy)]
-pub enum After {
-    Next(SplitList),
-    Last,
-    Refused(u32),
+impl Model for SplitList {
+    ghost use Rattle.std.specs.Prelude.{ℕ, ◌≤◌, List, take};
+
+    ghost Value = { List ℕ };
+
+    ghost view = { λ s. take s.count s.nodes };
+
+    ghost invariant = { λ s. s.count ≤ 3 };
 }
 
-fn listed(count: u16, second: u16, third: u16) -> After
-    ensures { result ≡ list_of count second third }
-{
-    let s = SplitList {
-        count: count,
-        first: 0,
-        second: second,
-        third: third,
-    };
-    After::Next(s)
+impl SplitList {
+    fn of(splits: &[u16]) -> Self
+        requires { length splits.now ≤ 3 }
+        ensures { result ≡ splits.now }
+    {
+        let mut nodes = [0; 3];
+        nodes[..splits.len()].copy_from_slice(splits);
+        SplitList {
+            nodes,
+            count: splits.len(),
+        }
+    }
+
+    // The list of no split.
+    pub fn empty() -> Self
+        ensures { result ≡ [] }
+    {
+        SplitList::of(&[])
+    }
+
+    pub fn as_slice(&self) -> &[u16]
+        ensures { (result.now ≡ self.now) × (length self.now ≤ 3) }
+    {
+        &self.nodes[..self.count]
+    }
 }
 
 // After [].
-fn after_none(n: u32) -> After
+#[tactic(auto, using(crate::proofs::Ways::none_last, crate::proofs::Ways::none_next))]
+fn after_none(n: u32) -> Result<Option<SplitList>, Refusal>
     requires { n ≤ 3 }
     ensures { result ≡ next_of n [] }
 {
     if n == 0 {
-        return After::Last;
+        Ok(None)
+    } else {
+        Ok(Some(SplitList::of(&[0])))
     }
-    listed(1, 0, 0)
 }
 
 // After [0].
-fn after_one(n: u32) -> After
+#[tactic(auto, using(crate::proofs::Ways::one_short, crate::proofs::Ways::one_last, crate::proofs::Ways::one_next))]
+fn after_one(n: u32) -> Result<Option<SplitList>, Refusal>
     requires { n ≤ 3 }
     ensures { result ≡ next_of n (0 ∷ []) }
 {
-    if n == 0 {
-        return After::Refused(refusal::NO_SPLIT_LIST);
+    match n {
+        0 => Err(Refusal::NoSplitList),
+        1 => Ok(None),
+        _ => Ok(Some(SplitList::of(&[0, 1]))),
     }
-    if n == 1 {
-        return After::Last;
-    }
-    listed(2, 1, 0)
 }
 
 // After [0, a].
-fn after_two(n: u32, a: u16) -> After
+#[tactic(auto, using(crate::proofs::Ways::two_up, crate::proofs::Ways::two_last, crate::proofs::Ways::two_over, crate::proofs::Ways::two_refused))]
+fn after_two(n: u32, a: u16) -> Result<Option<SplitList>, Refusal>
     requires { n ≤ 3 }
     ensures { result ≡ next_of n (0 ∷ a ∷ []) }
 {
-    if n < 2 {
-        return After::Refused(refusal::NO_SPLIT_LIST);
+    match (n, a) {
+        (2..=3, 1..=7) => Ok(Some(SplitList::of(&[0, a + 1]))),
+        (2, 8) => Ok(None),
+        (3, 8) => Ok(Some(SplitList::of(&[0, 1, 2]))),
+        _ => Err(Refusal::NoSplitList),
     }
-    if a < 1 {
-        return After::Refused(refusal::NO_SPLIT_LIST);
-    }
-    if a < 8 {
-        return listed(2, a + 1, 0);
-    }
-    if a == 8 {
-        if n == 2 {
-            return After::Last;
-        }
-        return listed(3, 1, 2);
-    }
-    After::Refused(refusal::NO_SPLIT_LIST)
 }
 
 // After [0, a, b] of the leaves that there are.
-fn after_leaf(a: u16, b: u16) -> After
-    requires { (1 ≤ a) × (a ≤ 8) × (1 ≤ b) × (b ≤ 16) × (a ≡ b → ⊥) }
-    ensures { result ≡ next_of 3 (0 ∷ a ∷ b ∷ []) }
+#[tactic(auto, using(crate::proofs::Ways::leaf_over, crate::proofs::Ways::leaf_up, crate::proofs::Ways::leaf_row, crate::proofs::Ways::leaf_last))]
+fn after_leaf(a: u16, b: u16) -> Option<SplitList>
+    requires { (1 ≤ a) × (a ≤ 8) × (1 ≤ b) × (b ≤ 16) × (a ≢ b) }
+    ensures { Ok result ≡ next_of 3 (0 ∷ a ∷ b ∷ []) }
 {
     if b + 1 == a {
-        return listed(3, a, b + 2);
+        Some(SplitList::of(&[0, a, b + 2]))
+    } else if b < 16 {
+        Some(SplitList::of(&[0, a, b + 1]))
+    } else if a < 8 {
+        Some(SplitList::of(&[0, a + 1, 1]))
+    } else {
+        None
     }
-    if b < 16 {
-        return listed(3, a, b + 1);
-    }
-    if a < 8 {
-        return listed(3, a + 1, 1);
-    }
-    After::Last
 }
 
 // After [0, a, b].
-fn after_three(n: u32, a: u16, b: u16) -> After
+#[tactic(auto, using(crate::proofs::Ways::three_refused))]
+fn after_three(n: u32, a: u16, b: u16) -> Result<Option<SplitList>, Refusal>
     requires { n ≤ 3 }
     ensures { result ≡ next_of n (0 ∷ a ∷ b ∷ []) }
 {
-    if n < 3 {
-        return After::Refused(refusal::NO_SPLIT_LIST);
+    match (n, a, b) {
+        (3, 1..=8, 1..=16) if a != b => Ok(after_leaf(a, b)),
+        _ => Err(Refusal::NoSplitList),
     }
-    if a == b {
-        return After::Refused(refusal::NO_SPLIT_LIST);
-    }
-    if 1 <= a {
-        if a <= 8 {
-            if 1 <= b {
-                if b <= 16 {
-                    return after_leaf(a, b);
-                }
-            }
-        }
-    }
-    After::Refused(refusal::NO_SPLIT_LIST)
 }
 
-// The list after this one among those of at most n splits.
-pub fn next(n: u32, list: &[u16]) -> After
+// The list after this one among those of at most n splits; none after the last.
+#[tactic(auto, using(crate::proofs::Ways::above_refused))]
+pub fn next(n: u32, list: &[u16]) -> Result<Option<SplitList>, Refusal>
     ensures { result ≡ next_of n list.now }
 {
     if MOST_LISTED < n {
-        return After::Refused(refusal::NO_SPLIT_LIST);
+        return Err(Refusal::NoSplitList);
     }
-    if list.len() == 0 {
-        return after_none(n);
+    match list {
+        [] => after_none(n),
+        [0] => after_one(n),
+        [0, a] => after_two(n, *a),
+        [0, a, b] => after_three(n, *a, *b),
+        _ => Err(Refusal::NoSplitList),
     }
-    if list[0] == 0 {
-        if list.len() == 1 {
-            return after_one(n);
-        }
-        if list.len() == 2 {
-            return after_two(n, list[1]);
-        }
-        if list.len() == 3 {
-            return after_three(n, list[1], list[2]);
-        }
-    }
-    After::Refused(refusal::NO_SPLIT_LIST)
 }

@@ -1,14 +1,9 @@
--- `next` meets its contract, way by way. Assumes nothing.
-use mathlib.Core.Path.{sym}
-use Rattle.small_trees.proofs.Tables.{next_above}
-use Rattle.small_trees.proofs.Ways.{list_first, list_long}
+-- `next` refuses a list of any other shape. Assumes nothing.
+use Rattle.std.proofs.Common.{arith}
+use Rattle.small_trees.proofs.Ways.{long_refused, other_refused}
 use Rattle.small_trees.proofs.next.Goals as goal
+use Rattle.small_trees.proofs.next.Goals.{in_default-via-then-list-lt2+in_default-1, in_default-via-else-list-lt2+then-list-lt3+in_default-1, in_default-via-else-list-lt2+else-list-lt3+then-list-lt4+in_default-1, in_default-via-else-list-lt2+else-list-lt3+else-list-lt4}
 
-pub returns-then-n-gt-MOST_LISTED : goal.returns-then-n-gt-MOST_LISTED
-returns-then-n-gt-MOST_LISTED c = sym (next_above _ _ c.if-n-gt-MOST_LISTED.true)
-
-pub returns-else-list-eq3 : goal.returns-else-list-eq3
-returns-else-list-eq3 c = list_long _ _ c.if-n-gt-MOST_LISTED.false c.if-list-eq0.false c.if-list-eq1.false c.if-list-eq2.false c.if-list-eq3.false
-
-pub returns-else-list-eq0-2 : goal.returns-else-list-eq0-2
-returns-else-list-eq0-2 c = list_first _ _ c.if-list-eq0.false c.if-list-eq0-2.false
+pub returns-in_default : goal.returns-in_default
+returns-in_default c =
+    elim c.in_default.branch [ in_default-via-then-list-lt2+in_default-1 w ↦ grind (arith, other_refused) | in_default-via-else-list-lt2+then-list-lt3+in_default-1 w ↦ grind (arith, other_refused) | in_default-via-else-list-lt2+else-list-lt3+then-list-lt4+in_default-1 w ↦ grind (arith, other_refused) | in_default-via-else-list-lt2+else-list-lt3+else-list-lt4 w ↦ grind (arith, long_refused) ]

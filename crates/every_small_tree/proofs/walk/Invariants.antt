@@ -1,9 +1,0 @@
--- `walk` is safe and ends. Assumes nothing.
-use Prim.Native.Nat.{◌≤◌, ◌-◌}
-use Rattle.every_small_tree.proofs.walk.Given as goal
-
-abbrev pub invariant-loop-i : goal.invariant-loop-i
-invariant-loop-i l = l.i ≤ 200
-
-abbrev pub decreases-loop-i : goal.decreases-loop-i
-decreases-loop-i l = 200 - l.i
