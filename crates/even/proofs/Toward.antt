@@ -10,7 +10,7 @@ use Rattle.remy.specs.declared.cube.Child.{Child}
 use Rattle.remy.specs.Cube.{usual_ends, root_of, child_cube, contains_of, place_of_point, toward_of, Whole}
 use Rattle.remy.proofs.Ends.{whole_admitted, usual_admitted}
 use Rattle.remy.proofs.Partition.{whole_child, child_inside, no_child, place_holds, place_only, place_below}
-use Rattle.even.specs.declared.Placed.TheVariants.{Row, Nothing}
+use Rattle.std.specs.Prelude.{Some, None}
 use Rattle.even.specs.Even.{even_cube, row_of}
 use Rattle.even.proofs.Rows.{first_row, no_row}
 
@@ -62,10 +62,10 @@ module _ (p : Point) where
         go true x = absurd (let y = below in let z = one j (omega arith) x in omega arith)
         go false x = refl
 
-    pub row_inside : row_of p ≡ Row (toward_row p)
+    pub row_inside : row_of p ≡ Some (toward_row p)
     row_inside = first_row 64 0 (toward_row p) p (omega arith) below (λ j a l. others j l) holds
 
-  pub row_outside : contains_of box p ≡ false → row_of p ≡ Nothing
+  pub row_outside : contains_of box p ≡ false → row_of p ≡ None
   unfolding even_cube
   row_outside e =
       no_row 64 0 p (λ j a l. no_child (child_cube box (j / 8)) (whole_child box whole (j / 8)) p (no_child box whole p e (j / 8)) (j % 8))
@@ -76,14 +76,14 @@ unfolding toward_of
 small c p a e = let b = place_below c p in let f : a.number ≡ place_of_point c p = ap (λ (x : Child). x.number) e in omega arith
 
 pub two_turns : (r : Cube) (p : Point) (a b : Child) → r ≡ box → contains_of r p ≡ true → a ≡ toward_of r p → b ≡ toward_of a.cube p
-    → Row (a.number * 8 + b.number) ≡ row_of p
+    → Some (a.number * 8 + b.number) ≡ row_of p
 unfolding toward_of
 two_turns r p a b z e x y =
     let f : a ≡ toward_of box p = x ∙ ap (λ (c : Cube). toward_of c p) z in
     let g : b.number ≡ place_of_point (child_cube box (place_of_point box p)) p =
     ap (λ (k : Child). k.number) y ∙ ap (λ (k : Child). place_of_point k.cube p) f in
-    ap₂ (λ (i j : ℕ). Row (i * 8 + j)) (ap (λ (k : Child). k.number) f) g
+    ap₂ (λ (i j : ℕ). Some (i * 8 + j)) (ap (λ (k : Child). k.number) f) g
     ∙ sym (row_inside p (ap (λ (c : Cube). contains_of c p) (sym z) ∙ e))
 
-pub no_turn : (r : Cube) (p : Point) → r ≡ box → contains_of r p ≡ false → Nothing ≡ row_of p
+pub no_turn : (r : Cube) (p : Point) → r ≡ box → contains_of r p ≡ false → None ≡ row_of p
 no_turn r p z e = sym (row_outside p (ap (λ (c : Cube). contains_of c p) (sym z) ∙ e))

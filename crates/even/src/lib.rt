@@ -7,7 +7,7 @@ ghost use Rattle.even.specs.Even.{even_cube, even_bounds, row_of};
 use remy::cube::Cube;
 use remy::point::Point;
 
-// Row by row, nodes 9 to 72: the three lower ends, then the three upper ones, of ack_ewma, send_ewma and rtt_ratio.
+// Row by row, nodes 9 to 72: the three lower ends, then the three upper ones, of ack_ewma, send_ewma and rtt_ratio. Flat, as `bounds` hands it out.
 const BOUNDS: [f64; 384] = [
     0.0, 0.0, 0.0, 150.0, 150.0, 250.0, 0.0, 0.0, 250.0, 150.0, 150.0, 500.0, 0.0, 150.0, 0.0,
     150.0, 300.0, 250.0, 0.0, 150.0, 250.0, 150.0, 300.0, 500.0, 150.0, 0.0, 0.0, 300.0, 150.0,
@@ -39,13 +39,6 @@ const BOUNDS: [f64; 384] = [
     450.0, 500.0, 600.0, 600.0, 750.0, 450.0, 450.0, 750.0, 600.0, 600.0, 1000.0,
 ];
 
-// Where a point lies in the table.
-#[derive(Clone, Copy)]
-pub enum Placed {
-    Row(u16),
-    Nothing,
-}
-
 // The whole table.
 pub fn bounds() -> [f64; 384]
     ensures { result ≡ even_bounds }
@@ -54,6 +47,7 @@ pub fn bounds() -> [f64; 384]
 }
 
 // The cube of a row of the table.
+#[tactic(auto, using(crate::proofs::Rows::cube_read))]
 fn cube_in(b: &[f64; 384], row: u16) -> Cube
     requires { (b.now ≡ even_bounds) × (row < 64) }
     ensures { result ≡ even_cube row }
@@ -65,23 +59,22 @@ fn cube_in(b: &[f64; 384], row: u16) -> Cube
 }
 
 // The row that holds the point. The table is made once, and lent at each turn.
-pub fn row_of(p: Point) -> Placed
+#[tactic(auto, using(crate::proofs::Rows::search_here, crate::proofs::Rows::search_on, crate::proofs::Rows::search_over))]
+pub fn row_of(p: Point) -> Option<u16>
     ensures { result ≡ row_of p }
 {
     let b = bounds();
-    let mut row: u16 = 0;
-    while row < 64 {
-        let c = cube_in(&b, row);
-        if c.contains(p) {
-            return Placed::Row(row);
+    for row in 0..64 {
+        if cube_in(&b, row).contains(p) {
+            return Some(row);
         }
-        row += 1;
     }
-    Placed::Nothing
+    None
 }
 
 // The same by comparisons with the middles of two cubes, for callers that ask often: no table is made.
-pub fn row_toward(p: Point) -> Placed
+#[tactic(auto, using(crate::proofs::Toward::small, crate::proofs::Toward::two_turns, crate::proofs::Toward::no_turn))]
+pub fn row_toward(p: Point) -> Option<u16>
     ensures { result ≡ row_of p }
 {
     let root = Cube::root(Point::usual_ends());
@@ -89,8 +82,8 @@ pub fn row_toward(p: Point) -> Placed
         let a = root.toward(p);
         let c = a.cube;
         let b = c.toward(p);
-        Placed::Row(a.number * 8 + b.number)
+        Some(a.number * 8 + b.number)
     } else {
-        Placed::Nothing
+        None
     }
 }

@@ -9,6 +9,7 @@ use native.Mathlib.Omega.{arith}
 use lib.Dec.{eqb}
 use lib.ListN.{get_or}
 use borrow.Author.Tests.{eqb-true, eq-eqb}
+use Rattle.std.specs.Prelude.{Some, None}
 use Rattle.remy.specs.declared.action.Action.{Action}
 use Rattle.remy.specs.declared.point.Point.{Point}
 use Rattle.remy.specs.declared.cube.Cube.{Cube}
@@ -32,7 +33,6 @@ use Rattle.rule_tree_laws.specs.Growth as growth
 use Rattle.rule_tree_laws.proofs.GrowthTest.{growth_grown}
 use Rattle.rule_tree_laws.proofs.Family.{child_of, cube_in, cube_root, cube_child}
 use Rattle.rule_tree_laws.proofs.Partition.{InOneLeaf, in_one_leaf, in_none}
-use Rattle.even.specs.declared.Placed.TheVariants.{Row, Nothing}
 use Rattle.even.specs.Even.{even_cube, row_of}
 use Rattle.even.proofs.Rows.{first_row, no_row}
 use Rattle.even.proofs.Toward.{usual_whole}
@@ -124,10 +124,10 @@ module _ (t : RuleTree) (v : Even t) where
           go true x = absurd (let y = row_below in let z = one_row j (omega arith) x in let a = above in omega arith)
           go false x = refl
 
-      row_inside : row_of p ≡ Row (leaf_of t p - 9)
+      row_inside : row_of p ≡ Some (leaf_of t p - 9)
       row_inside = first_row 64 0 (leaf_of t p - 9) p (omega arith) row_below (λ j a l. others j l) holds
 
-    row_outside : contains_of (root_of t.ends) p ≡ false → row_of p ≡ Nothing
+    row_outside : contains_of (root_of t.ends) p ≡ false → row_of p ≡ None
     row_outside e =
         let n = in_none t p linked v.full whole e in
         no_row 64 0 p
@@ -137,7 +137,7 @@ module _ (t : RuleTree) (v : Even t) where
     pub rows_agree : row_of p ≡ row_in t p
     rows_agree = go (contains_of (root_of t.ends) p) refl
       where
-        go : (b : Bool) → contains_of (root_of t.ends) p ≡ b → row_of p ≡ cond b (Row (leaf_of t p - 9)) Nothing
+        go : (b : Bool) → contains_of (root_of t.ends) p ≡ b → row_of p ≡ cond b (Some (leaf_of t p - 9)) None
         go true e = row_inside e
         go false e = row_outside e
 

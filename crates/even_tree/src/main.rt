@@ -39,30 +39,22 @@ fn grow() -> RuleTree {
     let a = Action::new(1.0, 0, 0.0);
     let made = RuleTree::new(Point::usual_ends(), a);
     let mut t = made.tree;
-    let mut node: u16 = 0;
-    while node < 9 {
-        let done = t.split(node);
-        t = done.tree;
-        node += 1;
+    for node in 0..9 {
+        t = t.split(node).tree;
     }
     t
 }
 
 fn main() {
     let t = grow();
-    let mut node: u16 = 9;
-    while node < 73 {
-        let d = t.domain(node);
-        match d {
-            Domain::Of(c) => {
-                row(c);
-            }
+    for node in 9..73 {
+        match t.domain(node) {
+            Domain::Of(c) => row(c),
             Domain::Refused(n) => {
                 say(b"refused ");
-                io::print_decimal(1, n as u64);
+                io::print_decimal(1, u64::from(n));
                 say(b"\n");
             }
         }
-        node += 1;
     }
 }

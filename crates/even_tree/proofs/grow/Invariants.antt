@@ -1,9 +1,0 @@
--- `grow` is safe and ends. Assumes nothing.
-use Rattle.std.proofs.Common.{◌-◌, ◌≤◌}
-use Rattle.even_tree.proofs.grow.Given as goal
-
-abbrev pub invariant-loop-node : goal.invariant-loop-node
-invariant-loop-node l = l.node ≤ 9
-
-abbrev pub decreases-loop-node : goal.decreases-loop-node
-decreases-loop-node l = 9 - l.node
