@@ -8,10 +8,8 @@ use native.Mathlib.Omega.{arith}
 use lib.ListN.{length, set, replicate, get_or-replicate}
 use lib.Seq.{get_or-set_same, get_or-set_other}
 use Rattle.remy.specs.declared.cube.Cube.{Cube}
-use Rattle.remy.specs.Cube.{child_cube, root_of}
-use Rattle.rule_tree.specs.declared.RuleTree.{RuleTree}
-use Rattle.rule_tree.specs.Nodes.{children_of}
-use Rattle.rule_tree.specs.Cubes.{split_nodes, cube_at, cube_of}
+use Rattle.remy.specs.Cube.{child_cube}
+use Rattle.rule_tree.specs.Cubes.{cube_at}
 use Rattle.rule_tree.proofs.CubeSteps.{parent_of, root_cube, parent_before, child_step}
 use Rattle.ranges.specs.Cubes.{no_cube, cube_in, CubesAre, Before}
 
@@ -35,14 +33,3 @@ module _ (ps : List ℕ) (root : Cube) where
         ∙ sym (child_step ps root low i b (λ y. omega (arith, a, y)))))
         (λ (q : k < i). get_or-set_other out i k d no_cube (λ y. omega (arith, y)) ∙ h k q)
         (eq-or-lt_of_le (omega arith))
-
-pub fewer : (out : List Cube) (i n : ℕ) (f : ℕ → Cube) → n ≤ i → CubesAre out i f → CubesAre out n f
-fewer out i n f l h k b = h k (omega arith)
-
--- the tree's own
-pub tree_cubes : (t : RuleTree) (cs ps : List ℕ) (root : Cube) (out : List Cube) (n : ℕ)
-    → cs ≡ children_of t.nodes → ps ≡ split_nodes cs → root ≡ root_of t.ends
-    → CubesAre out n (λ i. cube_at i ps root i) → CubesAre out n (cube_of t)
-tree_cubes t cs ps root out n c p r h i l =
-    h i l ∙ ap (λ (qs : List ℕ). cube_at i qs root i) (p ∙ ap split_nodes c)
-    ∙ ap (λ (x : Cube). cube_at i (split_nodes (children_of t.nodes)) x i) r

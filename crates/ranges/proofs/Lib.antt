@@ -2,7 +2,6 @@ pub mod Axis
 pub mod LeafWays
 pub mod Passing
 pub mod Listing
-pub mod Writing
 pub mod CubeWays
 pub mod Calls
 pub mod Lens

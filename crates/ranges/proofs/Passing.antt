@@ -15,8 +15,7 @@ rising_from a b [] h k = tt
 rising_from a b (x ∷ xs) h k = (omega (arith, k.0), k.1)
 
 pub no : (b : Bool) → b ≡ true → b ≡ false → ⊥
-no true p q = let z : ◌≡◌ {A = ℕ} 0 1 = cc in omega arith
-no false p q = let z : ◌≡◌ {A = ℕ} 0 1 = cc in omega arith
+no b p q = cc
 
 module _ (test : ℕ → Bool) where
   pub rising : (n i : ℕ) → Rising i (passing test i n)
@@ -114,3 +113,6 @@ module _ (test : ℕ → Bool) where
   passing_miss n h =
       ap (passing test 0) (let e : n + 1 ≡ suc n = omega arith in e) ∙ passing_suc n 0 n (omega arith)
       ∙ ap (λ (b : Bool). passing test 0 n ++ cond b (n ∷ []) []) h ∙ append-nil (passing test 0 n)
+
+-- none, one more number, and at most as many as were tested
+pub ruleset one_more = (passing_none, passing_hit, passing_miss, passing_few)

@@ -1,9 +1,10 @@
 -- 02, wish 12: memory known only within ranges, and the leaves that some point within them could reach.
-use Rattle.std.specs.Prelude.{Bool, ◌&&◌, cond, List, [], ◌∷◌, ℕ, zero, suc, leb, Float, length}
+use Rattle.std.specs.Prelude.{Bool, ◌&&◌, cond, List, [], ◌∷◌, ℕ, zero, suc, leb, Float, length, Result, Ok}
 use Rattle.std.specs.Float.Ieee.{le, lt}
 use Rattle.std.proofs.lemmas.List.Edits.{sets}
-use Rattle.refusal.specs.Numbers.{not_grown, bad_ranges, short_list}
-use Rattle.refusal.specs.Guards.{Test, test, guarded}
+use Rattle.refusal.specs.declared.Refusal.{Refusal}
+use Rattle.refusal.specs.declared.Refusal.TheVariants.{NotGrown, BadRanges, ShortList}
+use Rattle.refusal.specs.Guards.{Check, check, checked, pass}
 use Rattle.remy.specs.declared.point.Point.{Point}
 use Rattle.remy.specs.declared.cube.Cube.{Cube}
 use Rattle.remy.specs.Cube.{ack, send, ratio, point_of}
@@ -12,8 +13,6 @@ use Rattle.rule_tree.specs.Nodes.{is_leaf_of, node_count}
 use Rattle.rule_tree.specs.Grown.{grown_of}
 use Rattle.rule_tree.specs.Cubes.{cube_of}
 use Rattle.ranges.specs.declared.Ranges.{Ranges}
-use Rattle.ranges.specs.declared.Leaves.{Leaves}
-use Rattle.ranges.specs.declared.Leaves.TheVariants.{Found, Refused}
 
 -- "each average and the ratio as a lowest and a highest value": the lowest of each, and the highest
 abbrev pub lowest_of : Ranges → Point
@@ -51,14 +50,14 @@ leaves_within t r = passing (reached_leaf t r) 0 (node_count t.splits)
 
 -- ---- the call
 -- "refused with 28 and then a list shorter than the number of leaves found with 29"
-abbrev pub ranges_order : RuleTree → Ranges → List ℕ → List Test
+abbrev pub ranges_order : RuleTree → Ranges → List ℕ → List Check
 ranges_order t r xs =
-    test (grown_of t) not_grown ∷ test (ordered_of r) bad_ranges ∷ test (leb (length (leaves_within t r)) (length xs)) short_list ∷ []
+    check (grown_of t) NotGrown ∷ check (ordered_of r) BadRanges ∷ check (leb (length (leaves_within t r)) (length xs)) ShortList ∷ []
 
 -- "their number is returned"
-unfoldable pub leaves_of : RuleTree → Ranges → List ℕ → Leaves
-leaves_of t r xs = guarded (ranges_order t r xs) Refused (Found (length (leaves_within t r)))
+unfoldable pub leaves_of : RuleTree → Ranges → List ℕ → Result ℕ Refusal
+leaves_of t r xs = checked (ranges_order t r xs) (Ok (length (leaves_within t r)))
 
 -- "They are written to a lent list by rising node"; "the rest of the list is unchanged", and all of it where the call is refused
 unfoldable pub list_after : RuleTree → Ranges → List ℕ → List ℕ
-list_after t r xs = guarded (ranges_order t r xs) (λ k. xs) (sets xs 0 (leaves_within t r))
+list_after t r xs = cond (pass (ranges_order t r xs)) (sets xs 0 (leaves_within t r)) xs

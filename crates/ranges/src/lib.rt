@@ -5,6 +5,7 @@ ghost use Rattle.std.specs.Prelude.{◌≡◌};
 ghost use Rattle.std.specs.Float.Ieee.{le};
 ghost use Rattle.ranges.specs.Ranges.{meets, ordered_of, reachable, leaves_of, list_after};
 
+use refusal::Refusal;
 use remy::cube::Cube;
 use rule_tree::RuleTree;
 
@@ -24,13 +25,6 @@ pub struct Ranges {
     pub rtt_ratio: Range,
 }
 
-// How many leaves were found.
-#[derive(Clone, Copy)]
-pub enum Leaves {
-    Found(u16),
-    Refused(u32),
-}
-
 impl Range {
     // No end is NaN, and the lowest is not above the highest.
     pub fn ordered(self) -> bool
@@ -43,12 +37,7 @@ impl Range {
     pub fn meets(self, min: f64, max: f64) -> bool
         ensures { result ≡ meets self.lowest self.highest min max }
     {
-        if self.lowest < max {
-            if min <= self.highest {
-                return min < max;
-            }
-        }
-        false
+        self.lowest < max && min <= self.highest && min < max
     }
 }
 
@@ -56,50 +45,37 @@ impl Ranges {
     pub fn ordered(self) -> bool
         ensures { result ≡ ordered_of self }
     {
-        let ack = self.ack_ewma;
-        let send = self.send_ewma;
-        let ratio = self.rtt_ratio;
-        if ack.ordered() {
-            if send.ordered() {
-                return ratio.ordered();
-            }
-        }
-        false
+        self.ack_ewma.ordered() && self.send_ewma.ordered() && self.rtt_ratio.ordered()
     }
 
     // Some point within the ranges is in the cube.
+    #[tactic(auto, unfolding(crate::specs::Ranges::reachable))]
     pub fn reach(self, c: Cube) -> bool
         ensures { result ≡ reachable c self }
     {
-        let ack = self.ack_ewma;
-        let send = self.send_ewma;
-        let ratio = self.rtt_ratio;
-        if ack.meets(c.min.ack_ewma.0, c.max.ack_ewma.0) {
-            if send.meets(c.min.send_ewma.0, c.max.send_ewma.0) {
-                return ratio.meets(c.min.rtt_ratio, c.max.rtt_ratio);
-            }
-        }
-        false
+        self.ack_ewma.meets(c.min.ack_ewma.0, c.max.ack_ewma.0)
+            && self.send_ewma.meets(c.min.send_ewma.0, c.max.send_ewma.0)
+            && self.rtt_ratio.meets(c.min.rtt_ratio, c.max.rtt_ratio)
     }
 }
 
-// The leaves that some point within the ranges reaches, by rising node, in the first places of the list.
-pub fn leaves_within(tree: RuleTree, r: Ranges, list: &mut [u16]) -> Leaves
-    ensures { (result ≡ leaves_of tree r list.old) × (list.new ≡ list_after tree r list.old) }
+// The leaves that some point within the ranges reaches, by rising node, in the first places of the list; their number.
+#[tactic(auto, unfolding(crate::specs::Ranges::leaves_of, crate::specs::Ranges::list_after, refusal::specs::Guards::pass))]
+pub fn leaves_within(tree: RuleTree, r: Ranges, list: &mut [u16]) -> Result<u16, Refusal>
+    ensures answer { result ≡ leaves_of tree r list.old }
+    ensures list { list.new ≡ list_after tree r list.old }
 {
-    if tree.grown() {
-        if r.ordered() {
-            let found = inner::found_in(tree, r);
-            let number = found.number;
-            let n = number as usize;
-            if n <= list.len() {
-                let leaves = found.leaves;
-                inner::put(list, &leaves[..n]);
-                return Leaves::Found(number);
-            }
-            return Leaves::Refused(refusal::SHORT_LIST);
-        }
-        return Leaves::Refused(refusal::BAD_RANGES);
+    if !tree.grown() {
+        return Err(Refusal::NotGrown);
     }
-    Leaves::Refused(refusal::NOT_GROWN)
+    if !r.ordered() {
+        return Err(Refusal::BadRanges);
+    }
+    let found = inner::found_in(tree, r);
+    let n = found.len();
+    if list.len() < n {
+        return Err(Refusal::ShortList);
+    }
+    list[..n].copy_from_slice(found.as_slice());
+    Ok(n as u16)
 }

@@ -3,7 +3,8 @@
 
 ghost use Rattle.std.specs.Prelude.{◌≤◌};
 
-use ranges::{Leaves, Range, Ranges};
+use ranges::{Range, Ranges};
+use refusal::Refusal;
 use remy::action::Action;
 use remy::point::Point;
 use rule_tree::RuleTree;
@@ -18,31 +19,28 @@ fn number(n: u64) {
 
 fn item(n: u16) {
     say(b" ");
-    number(n as u64);
+    number(u64::from(n));
 }
 
 // Numbers, each with a space before it.
 fn show_list(list: &[u16]) {
-    let mut i: usize = 0;
-    while i < list.len() {
-        item(list[i]);
-        i += 1;
+    for n in list {
+        item(*n);
     }
 }
 
-fn show(found: Leaves) {
+fn show(found: Result<u16, Refusal>) {
     match found {
-        Leaves::Found(n) => {
+        Ok(n) => {
             say(b"leaves ");
-            number(n as u64);
-            say(b":");
+            number(u64::from(n));
         }
-        Leaves::Refused(n) => {
+        Err(r) => {
             say(b"refused ");
-            number(n as u64);
-            say(b":");
+            number(u64::from(r.number()));
         }
     }
+    say(b":");
 }
 
 fn range(lowest: f64, highest: f64) -> Range {
@@ -57,20 +55,19 @@ fn ranges_of(ack_ewma: Range, send_ewma: Range, rtt_ratio: Range) -> Ranges {
     }
 }
 
-// With a list of twelve times 999: what is answered, and the whole list after it.
-fn look(t: RuleTree, r: Ranges) {
-    let mut list = [999u16; 12];
-    show(ranges::leaves_within(t, r, &mut list));
-    show_list(&list);
+// With a lent list: what is answered, and the whole list after it.
+fn look_in(t: RuleTree, r: Ranges, list: &mut [u16]) {
+    show(ranges::leaves_within(t, r, list));
+    show_list(list);
     say(b"\n");
 }
 
-// With a list of seven.
+fn look(t: RuleTree, r: Ranges) {
+    look_in(t, r, &mut [999; 12]);
+}
+
 fn look_short(t: RuleTree, r: Ranges) {
-    let mut list = [999u16; 7];
-    show(ranges::leaves_within(t, r, &mut list));
-    show_list(&list);
-    say(b"\n");
+    look_in(t, r, &mut [999; 7]);
 }
 
 fn at(t: RuleTree, ack: f64, send: f64, ratio: f64) {
@@ -103,11 +100,9 @@ fn deep(ends: Point, child: u16) -> RuleTree
 {
     let mut t = boxed(ends);
     let mut leaf: u16 = 0;
-    let mut k: u16 = 0;
-    while k < 60 {
+    for k in 0..60 {
         t = split(t, leaf);
         leaf = child + 8 * k;
-        k += 1;
     }
     t
 }

@@ -1,24 +1,13 @@
--- `leaves_within` tests in the order 10, 28, 29, and a refusal leaves the list. Assumes nothing.
-use Rattle.rule_tree.proofs.Ways.{was_true, was_false}
+-- `leaves_within`: the leaves found stand in the first places of the list. Assumes nothing.
+use Rattle.std.proofs.Common.{◌≡◌, ◌∙◌, sym, ap, length, arith, List, ℕ}
+use Rattle.ranges.specs.Ranges.{leaves_within}
 use Rattle.ranges.proofs.Calls as law
 use Rattle.ranges.proofs.leaves_within.Goals as goal
 
-pub returns-then-n-list : goal.returns-then-n-list
-returns-then-n-list c =
-    let f = c.found_in-found in
-    law.listed c.args.tree c.args.r c.args.list.now (was_true c.grown.ensures c.if-grown.true)
-    (was_true c.ordered.ensures c.if-ordered.true) f.result.number
-    f.result.leaves c.put.new.list f.ensures.0 f.ensures.1 c.if-n-list.true c.put.ensures
-
-pub returns-then-ordered : goal.returns-then-ordered
-returns-then-ordered c =
-    law.too_short c.args.tree c.args.r c.args.list.now (was_true c.grown.ensures c.if-grown.true)
-    (was_true c.ordered.ensures c.if-ordered.true) c.found_in-found.result.number c.found_in-found.ensures.0 c.if-n-list.false
-
-pub returns-then-grown : goal.returns-then-grown
-returns-then-grown c =
-    law.not_ordered c.args.tree c.args.r c.args.list.now (was_true c.grown.ensures c.if-grown.true) (was_false c.ordered.ensures c.if-ordered.false)
-
-pub returns : goal.returns
-returns c =
-    law.not_grown c.args.tree c.args.r c.args.list.now (was_false c.grown.ensures c.if-grown.false)
+pub returns-clause-list : goal.returns-clause-list
+returns-clause-list c =
+    let ls : List ℕ = leaves_within c.args.tree c.args.r in
+    let n : c.len-n.result ≡ length ls = c.len-n.ensures.value ∙ ap length c.found_in-found.ensures in
+    let w : c.copy_from_slice.new.self ≡ ls = c.copy_from_slice.ensures.after ∙ c.as_slice.ensures.value ∙ c.found_in-found.ensures in
+    rw (w, n)
+    (law.listed c.args.tree c.args.r c.args.list.now (sym c.grown.ensures ∙ c.if-not-grown.false) (sym c.ordered.ensures ∙ c.if-not-ordered.false) (omega arith)).1
