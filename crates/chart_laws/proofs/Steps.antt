@@ -8,9 +8,10 @@ use lib.Ieee.Bits.{is_true}
 use lib.Ieee.Fits.{and_l, and_r, and_i, sub-fits}
 use Rattle.floats.specs.Interval.{within}
 use Rattle.floats.proofs.Zero.{0f}
+use Rattle.std.specs.Prelude.{Result, Ok, Err}
+use Rattle.refusal.specs.declared.Refusal.{Refusal}
+use Rattle.quantities.specs.declared.Time.{Time}
 use Rattle.quantities.specs.declared.TimeSpan.{TimeSpan}
-use Rattle.quantities.specs.declared.Admitted.{Admitted}
-use Rattle.quantities.specs.declared.Admitted.TheVariants as read
 use Rattle.quantities.specs.Time.{span, moment, admitted, admit_of}
 use Rattle.remy.specs.declared.action.Action.{Action}
 use Rattle.remy.specs.Action.{rule_of}
@@ -83,9 +84,9 @@ module _ (P : Sender → Type 0) (keeps : (s : Sender) (m : Moment) → P s → 
   unfolding after_reply send_admitted
   send_stays at = go (admit_of at)
     where
-      go : (x : Admitted) → P (after_reply s (send_admitted s x)).sender
-      go (read.At t) = keeps s (At t) h
-      go (read.Refused k) = h
+      go : (x : Result Time Refusal) → P (after_reply s (send_admitted s x)).sender
+      go (Ok t) = keeps s (At t) h
+      go (Err k) = h
 
   pub tick_stays : P (tick_of s).sender
   tick_stays = keeps s Never h

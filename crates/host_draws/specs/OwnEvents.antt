@@ -10,11 +10,10 @@ use Rattle.record.specs.Calls.{load_of, record_test}
 use Rattle.sender.specs.declared.Event.{Event}
 use Rattle.sender.specs.declared.Event.TheVariants.{Ack, Send, Tick}
 use Rattle.sender.specs.declared.Reply.{Reply}
-use Rattle.xoshiro.specs.Calls.{state_order}
 use Rattle.own_draws.specs.OwnRuns.{OwnCall, ack, send, tick, own_replies, own_end, generator_end}
 use Rattle.host_sender.specs.Layout.{sender_at, sender_bytes}
 use Rattle.host_sender.specs.Events.{event_at, reply_bytes, event_count}
-use Rattle.host_draws.specs.Steps.{state_at, state_bytes}
+use Rattle.host_draws.specs.Steps.{state_at, state_bytes, state_order}
 
 -- an event as a call; the draw that its bytes hold is not looked at
 unfoldable pub call_of : RuleTree → Event → OwnCall

@@ -1,14 +1,13 @@
 -- 02, wish 7, for hosts: "the public generator xoshiro256++", kept in 32 bytes.
-use Rattle.std.specs.Prelude.{List, [], ◌∷◌, ◌++◌, ℕ, length, eqb, leb}
+use Rattle.std.specs.Prelude.{not, List, [], ◌∷◌, ◌++◌, ℕ, length, eqb, leb}
 use Rattle.std.proofs.lemmas.List.Edits.{sets}
-use Rattle.refusal.specs.Numbers.{bad_length, short_buffer}
+use Rattle.refusal.specs.Numbers.{bad_length, short_buffer, zero_state}
 use Rattle.refusal.specs.Guards.{Test, test, guarded}
 use Rattle.record.specs.declared.Saved.{Saved}
 use Rattle.record.specs.declared.Saved.TheVariants.{Size, Refused}
 use Rattle.wire.specs.Bytes.{bytes_of, number_at}
 use Rattle.xoshiro.specs.declared.State.{State}
-use Rattle.xoshiro.specs.Xoshiro.{output_of, next_of, back_of}
-use Rattle.xoshiro.specs.Calls.{state_order}
+use Rattle.xoshiro.specs.Xoshiro.{zeros_of, output_of, next_of, back_of}
 
 -- four words, 8 bytes each
 abbrev pub state_at : List ℕ → State
@@ -18,7 +17,11 @@ state_at bytes =
 abbrev pub state_bytes : State → List ℕ
 state_bytes s = bytes_of 8 s.s0 ++ (bytes_of 8 s.s1 ++ (bytes_of 8 s.s2 ++ bytes_of 8 s.s3))
 
--- 6 where there are not 32; then "A state of four zeros is refused with 26"
+-- "A state of four zeros is refused with 26"
+abbrev pub state_order : State → List Test
+state_order s = test (not (zeros_of s)) zero_state ∷ []
+
+-- 6 where there are not 32; then 26
 abbrev pub words_order : List ℕ → List Test
 words_order generator = test (eqb (length generator) 32) bad_length ∷ state_order (state_at generator)
 

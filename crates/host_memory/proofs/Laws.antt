@@ -1,7 +1,7 @@
 -- What a host reads back: the list in the buffer of `leaves_within` is the one that the call on a list leaves, and the last two bytes of a row of
 -- `lookup_tested` are the number of cubes that the lookup tested. Assumes nothing.
 use mathlib.Core.Path.{◌≡◌, refl, sym, ap, subst, ◌∙◌}
-use mathlib.Core.Bool.{Bool, true, false, cond}
+use mathlib.Core.Bool.{Bool, true, false, cond, ◌&&◌}
 use mathlib.Core.List.{List, [], ◌∷◌, append-nil}
 use mathlib.Core.Logic.{⊎_elim}
 use Prim.Native.Nat.{ℕ, zero, suc, ◌+◌, ◌*◌, ◌/◌, ◌%◌, ◌<◌, ◌≤◌}
@@ -10,12 +10,13 @@ use borrow.Author.Tests.{leb-true}
 use lib.Dec.{leb}
 use lib.ListN.{length, get_or, set, length-set}
 use lib.Seq.{sets, length-sets, drop_at, ext_get_or, get_or-set_same, get_or-set_other}
+use Rattle.refusal.specs.Guards.{pass}
 use Rattle.remy.specs.declared.point.Point.{Point}
 use Rattle.rule_tree.specs.declared.RuleTree.{RuleTree}
 use Rattle.rule_tree.specs.Nodes.{node_count}
 use Rattle.rule_tree.specs.Grown.{grown_of}
 use Rattle.rule_tree.specs.Calls.{opened_of}
-use Rattle.rule_tree.proofs.Plain.{PointFits}
+use Rattle.rule_tree.proofs.Plain.{PointFits, and_l, and_r}
 use Rattle.rule_tree.proofs.Lists.{get_d_tabulate}
 use Rattle.rule_tree.proofs.Links.{grown_splits}
 use Rattle.rule_tree.proofs.Owners.{same_or_not}
@@ -24,7 +25,7 @@ use Rattle.wire.specs.Bytes.{bytes_of, shorts_bytes, number_at}
 use Rattle.wire.proofs.Bytes.{bytes_count, number_none, number_more, number_stands}
 use Rattle.wire.proofs.Stores.{sets_append}
 use Rattle.ranges.specs.declared.Ranges.{Ranges}
-use Rattle.ranges.specs.Ranges.{ordered_of, passing, reached_leaf, leaves_within, list_after}
+use Rattle.ranges.specs.Ranges.{ordered_of, passing, reached_leaf, leaves_within, ranges_order, list_after}
 use Rattle.host_trainer.specs.Lookups.{found_bytes}
 use Rattle.host_trainer.proofs.LookupWays.{found_count}
 use Rattle.host_memory.specs.Within.{list_in, listed_after}
@@ -122,19 +123,19 @@ leaves_few t r g i =
     omega arith
 
 -- ---- the call
-by_tests : (g o b : Bool) (A B out : List ℕ) → (g ≡ true → b ≡ true → list_in A ≡ B)
-    → list_in (cond g (cond o (cond b A out) out) out) ≡ cond g (cond o (cond b B (list_in out)) (list_in out)) (list_in out)
-by_tests true true true A B out h = h refl refl
-by_tests true true false A B out h = refl
-by_tests true false b A B out h = refl
-by_tests false o b A B out h = refl
+by_tests : (p : Bool) (A B out : List ℕ) → (p ≡ true → list_in A ≡ B) → list_in (cond p A out) ≡ cond p B (list_in out)
+by_tests true A B out h = h refl
+by_tests false A B out h = refl
 
 pub list_left : (t : RuleTree) (r : Ranges) (out : List ℕ) → list_in (listed_after t r out) ≡ list_after t r (list_in out)
-unfolding listed_after list_after
+unfolding listed_after list_after pass
 list_left t r out =
-    by_tests (grown_of t) (ordered_of r) (leb (length (leaves_within t r)) (length (list_in out)))
+    let room : Bool = leb (length (leaves_within t r)) (length (list_in out)) in
+    by_tests (pass (ranges_order t r (list_in out)))
     (sets out 0 (shorts_bytes (leaves_within t r))) (sets (list_in out) 0 (leaves_within t r)) out
-    (λ g b.
+    (λ h.
+    let g = and_l (grown_of t) (ordered_of r && (room && true)) h in
+    let b = and_l room true (and_r (ordered_of r) (room && true) (and_r (grown_of t) (ordered_of r && (room && true)) h)) in
     let n = leb-true (length (leaves_within t r)) (length (list_in out)) b in
     let p = places out in
     list_sets (leaves_within t r) out 0 (leaves_few t r g) (omega arith))

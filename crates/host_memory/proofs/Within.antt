@@ -9,6 +9,9 @@ use lib.Dec.{leb}
 use lib.Ieee.{Float}
 use lib.ListN.{length, get_or, take}
 use lib.Seq.{sets, take-suc, take_all, length-take-le}
+use Rattle.refusal.specs.declared.Refusal.TheVariants.{BadRanges, ShortList}
+use Rattle.refusal.specs.Numbers.{number_of}
+use Rattle.refusal.specs.Guards.{pass}
 use Rattle.rule_tree.specs.declared.RuleTree.{RuleTree}
 use Rattle.rule_tree.specs.Grown.{grown_of}
 use Rattle.rule_tree.proofs.Lists.{length_tabulate}
@@ -62,23 +65,22 @@ module _ (t : RuleTree) (r : Ranges) (out : List ℕ) (g : grown_of t ≡ true) 
   abbrev Listed : Saved → List ℕ → Type 0
   Listed x o = (x ≡ listed_in t r out) × (o ≡ listed_after t r out)
 
-  pub disordered : ordered_of r ≡ false → Listed (Refused 28) out
-  unfolding listed_in listed_after
-  disordered o = (rw (g, o), rw (g, o))
+  pub disordered : {k : ℕ} → ordered_of r ≡ false → k ≡ number_of BadRanges → Listed (Refused k) out
+  unfolding listed_in listed_after pass
+  disordered o q = (rw (g, o) (ap Refused q), rw (g, o))
 
   module _ (o : ordered_of r ≡ true) (n : ℕ) (e : n ≡ length (leaves_within t r)) where
-    pub too_short : length out / 2 < n → Listed (Refused 29) out
-    unfolding listed_in listed_after
-    too_short l =
+    pub too_short : {k : ℕ} → length out / 2 < n → k ≡ number_of ShortList → Listed (Refused k) out
+    unfolding listed_in listed_after pass
+    too_short l q =
         let b : leb (length (leaves_within t r)) (length (list_in out)) ≡ false = lt-leb (length (leaves_within t r)) (length (list_in out)) (omega (arith, places out)) in
-        (rw (g, o, b), rw (g, o, b))
+        (rw (g, o, b) (ap Refused q), rw (g, o, b))
 
-    pub written : (leaves : List ℕ) {p : List ℕ} → take n leaves ≡ leaves_within t r → n ≤ length out / 2 → p ≡ sets out 0 (shorts_bytes (take n leaves))
-        → Listed (Size (2 * n)) p
-    unfolding listed_in listed_after
-    written leaves are l w =
+    pub written : {p : List ℕ} → n ≤ length out / 2 → p ≡ sets out 0 (shorts_bytes (leaves_within t r)) → Listed (Size (2 * n)) p
+    unfolding listed_in listed_after pass
+    written l w =
         let b : leb (length (leaves_within t r)) (length (list_in out)) ≡ true = le-leb (length (leaves_within t r)) (length (list_in out)) (omega (arith, places out)) in
-        (rw (g, o, b) (ap (λ (k : ℕ). Size (2 * k)) e), rw (g, o, b) (w ∙ ap (λ (z : List ℕ). sets out 0 (shorts_bytes z)) are))
+        (rw (g, o, b) (ap (λ (k : ℕ). Size (2 * k)) e), rw (g, o, b) w)
 
 -- ---- over a record
 module _ (held ranges out : List ℕ) (a : Answered) (loaded : a ≡ load_of held) where

@@ -1,8 +1,9 @@
 -- 02, wish 12, for hosts: "memory known only within ranges", over a record and bytes.
-use Rattle.std.specs.Prelude.{List, [], ◌∷◌, ℕ, ◌+◌, ◌*◌, ◌/◌, length, eqb}
+use Rattle.std.specs.Prelude.{cond, Result, Ok, Err, List, [], ◌∷◌, ℕ, ◌+◌, ◌*◌, ◌/◌, length, eqb}
 use Rattle.std.proofs.lemmas.List.Edits.{sets}
-use Rattle.refusal.specs.Numbers.{bad_length}
-use Rattle.refusal.specs.Guards.{Test, test, guarded}
+use Rattle.refusal.specs.declared.Refusal.{Refusal}
+use Rattle.refusal.specs.Numbers.{bad_length, number_of}
+use Rattle.refusal.specs.Guards.{Test, test, guarded, checked, pass}
 use Rattle.rule_tree.specs.declared.RuleTree.{RuleTree}
 use Rattle.rule_tree.specs.Lists.{tabulate}
 use Rattle.record.specs.declared.Saved.{Saved}
@@ -26,13 +27,18 @@ abbrev pub list_in : List ℕ → List ℕ
 list_in out = tabulate (length out / 2) (λ i. number_at out (2 * i) 2)
 
 -- ---- over a tree
--- "refused with 28 and then a list shorter than the number of leaves found with 29"; "their number is returned", two bytes for each
+-- "their number is returned", two bytes for each; a refusal by its number
+abbrev pub saved : Result ℕ Refusal → Saved
+saved (Ok n) = Size (2 * n)
+saved (Err k) = Refused (number_of k)
+
+-- "refused with 28 and then a list shorter than the number of leaves found with 29"
 unfoldable pub listed_in : RuleTree → Ranges → List ℕ → Saved
-listed_in t r out = guarded (ranges_order t r (list_in out)) Refused (Size (2 * length (leaves_within t r)))
+listed_in t r out = saved (checked (ranges_order t r (list_in out)) (Ok (length (leaves_within t r))))
 
 -- "They are written to a lent list by rising node"; "the rest of the list is unchanged", and all of it where the call is refused
 unfoldable pub listed_after : RuleTree → Ranges → List ℕ → List ℕ
-listed_after t r out = guarded (ranges_order t r (list_in out)) (λ k. out) (sets out 0 (shorts_bytes (leaves_within t r)))
+listed_after t r out = cond (pass (ranges_order t r (list_in out))) (sets out 0 (shorts_bytes (leaves_within t r))) out
 
 -- ---- over a record: its own 6, 7, 8, then 6 for ranges of another length
 abbrev pub held_order : List ℕ → List ℕ → List Test

@@ -16,6 +16,7 @@ use host_trainer::inner::lookups;
 use ranges::inner::found_in;
 use ranges::{Range, Ranges};
 use record::Saved;
+use refusal::Refusal;
 use remy::cube::Cube;
 use remy::point::Point;
 use rule_tree::inner::{links, walk};
@@ -49,11 +50,8 @@ fn put_nodes(out: &mut [u8], nodes: &[u16])
     requires { 2 * length nodes.now ≤ length out.old }
     ensures { out.new ≡ sets out.old 0 (shorts_bytes nodes.now) }
 {
-    let mut k: usize = 0;
-    while k < nodes.len() {
-        let node = nodes[k] as u64;
-        write::put(out, 2 * k, 2, node);
-        k += 1;
+    for (k, node) in nodes.iter().enumerate() {
+        write::put(out, 2 * k, 2, u64::from(*node));
     }
 }
 
@@ -62,17 +60,16 @@ fn listed(tree: RuleTree, r: Ranges, out: &mut [u8]) -> Saved
     requires { grown_of tree ≡ true }
     ensures { (result ≡ listed_in tree r out.old) × (out.new ≡ listed_after tree r out.old) }
 {
-    if r.ordered() {
-        let found = found_in(tree, r);
-        let n = found.number as usize;
-        if n <= out.len() / 2 {
-            let leaves = found.leaves;
-            put_nodes(out, &leaves[..n]);
-            return Saved::Size(2 * n);
-        }
-        return Saved::Refused(refusal::SHORT_LIST);
+    if !r.ordered() {
+        return Saved::Refused(Refusal::BadRanges.number());
     }
-    Saved::Refused(refusal::BAD_RANGES)
+    let found = found_in(tree, r);
+    let n = found.len();
+    if out.len() / 2 < n {
+        return Saved::Refused(Refusal::ShortList.number());
+    }
+    put_nodes(out, found.as_slice());
+    Saved::Size(2 * n)
 }
 
 // The leaves of a record's tree that some point within the ranges reaches, by rising node, two bytes each. A refused call writes nothing.

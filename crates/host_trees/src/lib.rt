@@ -4,15 +4,16 @@
 ghost use Rattle.std.specs.Prelude.{◌≡◌, ◌+◌, ◌*◌, ◌≤◌, length};
 ghost use Rattle.std.proofs.lemmas.List.Edits.{sets};
 ghost use Rattle.small_trees.specs.Calls.{next_of};
-ghost use Rattle.host_trees.specs.Lists.{list_at_of, list_whole, list_bytes, held_of, answered_in, answered_after, next_list_in, next_list_after};
+ghost use Rattle.host_trees.specs.Lists.{list_at_of, list_whole, list_bytes, answered_in, answered_after, next_list_in, next_list_after};
 ghost use Rattle.host_trees.specs.Rows.{even_row_in};
 
-use even::Placed;
 use record::Saved;
-use small_trees::{After, SplitList};
+use refusal::Refusal;
+use small_trees::SplitList;
 use wire::inner::{read, write};
 
 // Whether the bytes are a length byte and two bytes for each node.
+#[tactic(auto, unfolding(crate::specs::Lists::list_whole))]
 fn whole(list: &[u8]) -> bool
     ensures { result ≡ list_whole list.now }
 {
@@ -21,86 +22,71 @@ fn whole(list: &[u8]) -> bool
 }
 
 // What comes after the list that stands in the bytes.
-fn after_in(n: u32, list: &[u8]) -> After
+#[tactic(auto, using(crate::proofs::Lists::long_list, crate::proofs::Lists::nodes_read))]
+fn after_in(n: u32, list: &[u8]) -> Result<Option<SplitList>, Refusal>
     ensures { result ≡ next_of n (list_at_of list.now) }
 {
     let k = read::byte_at(list, 0) as usize;
     if 3 < k {
-        return After::Refused(refusal::NO_SPLIT_LIST);
+        return Err(Refusal::NoSplitList);
     }
-    let first = read::short_at(list, 1);
-    let second = read::short_at(list, 3);
-    let third = read::short_at(list, 5);
-    let nodes: [u16; 3] = [first, second, third];
+    let nodes = [
+        read::short_at(list, 1),
+        read::short_at(list, 3),
+        read::short_at(list, 5),
+    ];
     small_trees::next(n, &nodes[..k])
 }
 
-// The number of nodes that a list holds: it has room for three.
-fn held(s: SplitList) -> u16
-    ensures { (result ≡ held_of s) × (result ≤ 3) }
+#[tactic(auto, using(crate::proofs::Lists::none_put, crate::proofs::Lists::put_more, crate::proofs::Lists::all_put))]
+fn put_list(out: &mut [u8], list: &[u16])
+    requires { (length list.now ≤ 3) × (1 + 2 * length list.now ≤ length out.old) }
+    ensures { out.new ≡ sets out.old 0 (list_bytes list.now) }
 {
-    if s.count < 3 { s.count } else { 3 }
-}
-
-fn put_list(out: &mut [u8], s: SplitList)
-    requires { 1 + 2 * held_of s ≤ length out.old }
-    ensures { out.new ≡ sets out.old 0 (list_bytes s) }
-{
-    let k = held(s);
-    write::put(out, 0, 1, k as u64);
-    if k == 0 {
-        return;
+    write::put(out, 0, 1, list.len() as u64);
+    for (i, node) in list.iter().enumerate() {
+        write::put(out, 1 + 2 * i, 2, *node as u64);
     }
-    write::put(out, 1, 2, s.first as u64);
-    if k == 1 {
-        return;
-    }
-    write::put(out, 3, 2, s.second as u64);
-    if k == 2 {
-        return;
-    }
-    write::put(out, 5, 2, s.third as u64);
 }
 
 // The answer of the call, and the list written where there is one.
-fn answered(a: After, out: &mut [u8]) -> Saved
+#[tactic(auto, unfolding(crate::specs::Lists::answered_in, crate::specs::Lists::answered_after))]
+fn answered(a: Result<Option<SplitList>, Refusal>, out: &mut [u8]) -> Saved
     ensures { (result ≡ answered_in a out.old) × (out.new ≡ answered_after a out.old) }
 {
     match a {
-        After::Next(s) => {
-            let size = 1 + 2 * (held(s) as usize);
+        Ok(Some(list)) => {
+            let size = 1 + 2 * list.as_slice().len();
             if size <= out.len() {
-                put_list(out, s);
+                put_list(out, list.as_slice());
                 return Saved::Size(size);
             }
-            Saved::Refused(refusal::SHORT_BUFFER)
+            Saved::Refused(Refusal::ShortBuffer.number())
         }
-        After::Last => Saved::Size(0),
-        After::Refused(k) => Saved::Refused(k),
+        Ok(None) => Saved::Size(0),
+        Err(refusal) => Saved::Refused(refusal.number()),
     }
 }
 
 // The split list after another among those of at most n splits, written as it is read: a length byte, then each node in two.
+#[tactic(auto, unfolding(crate::specs::Lists::next_list_in, crate::specs::Lists::next_list_after))]
 pub fn next_list(n: u32, list: &[u8], out: &mut [u8]) -> Saved
     ensures { (result ≡ next_list_in n list.now out.old) × (out.new ≡ next_list_after n list.now out.old) }
 {
     if whole(list) {
-        let a = after_in(n, list);
-        return answered(a, out);
+        return answered(after_in(n, list), out);
     }
-    Saved::Refused(refusal::BAD_LENGTH)
+    Saved::Refused(Refusal::BadLength.number())
 }
 
 // The row of the even tree that holds the point; 64 where none does.
+#[tactic(auto, unfolding(crate::specs::Rows::even_row_in))]
 pub fn even_row(point: &[u8]) -> Saved
     ensures { result ≡ even_row_in point.now }
 {
     if point.len() == 24 {
-        let found = even::row_toward(read::point_at(point, 0));
-        match found {
-            Placed::Row(row) => return Saved::Size(row as usize),
-            Placed::Nothing => return Saved::Size(64),
-        }
+        let row = even::row_toward(read::point_at(point, 0));
+        return Saved::Size(row.unwrap_or(64) as usize);
     }
-    Saved::Refused(refusal::BAD_LENGTH)
+    Saved::Refused(Refusal::BadLength.number())
 }

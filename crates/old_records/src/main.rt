@@ -50,11 +50,7 @@ fn stays(record: &[u8]) -> usize {
     let mut again = io::large_buffer();
     let n = saved_of(record, &mut again);
     let k = within(n, &again);
-    if read::same(&again[..k], record) {
-        1
-    } else {
-        0
-    }
+    if &again[..k] == record { 1 } else { 0 }
 }
 
 fn put_line(old: usize, record: &[u8]) {

@@ -5,9 +5,10 @@ use mathlib.Core.Logic.{◌≢◌}
 use Prim.Native.Nat.{ℕ}
 use lib.Dec.{eqb, leb}
 use lib.Ieee.{Float}
+use Rattle.std.specs.Prelude.{Ok, Err}
+use Rattle.refusal.specs.declared.Refusal.TheVariants.{NotAdmitted}
 use Rattle.quantities.specs.Time.{moment, admit_of}
 use Rattle.quantities.specs.declared.Time.{Time}
-use Rattle.quantities.specs.declared.Admitted.TheVariants as read
 use Rattle.remy.specs.declared.action.Action.{Action}
 use Rattle.remy.specs.declared.point.Point.{Point}
 use Rattle.rule_tree.specs.declared.RuleTree.{RuleTree}
@@ -128,7 +129,7 @@ module _ (s : PlainSender) (sent received : Float) where
 -- ---- the calls
 admitted_reply :
     (t : RuleTree) (s : Sender) (a b : Bool) (x y : Time) (draw : Draw)
-    → ack_admitted t s (cond a (read.At x) (read.Refused 1)) (cond b (read.At y) (read.Refused 1)) draw ≡ cond (a && b) (ack_at t s x y draw) (Refused 1)
+    → ack_admitted t s (cond a (Ok x) (Err NotAdmitted)) (cond b (Ok y) (Err NotAdmitted)) draw ≡ cond (a && b) (ack_at t s x y draw) (Refused 1)
 unfolding ack_admitted
 admitted_reply t s true true x y draw = refl
 admitted_reply t s true false x y draw = refl
@@ -159,7 +160,7 @@ send_step s at = go (admitted at)
     after : PlainSender
     after = stand_with s (held.At (moment (read_as at)))
 
-    go : (b : Bool) → send_admitted (state_of s) (cond b (read.At (moment (read_as at))) (read.Refused 1)) ≡ reply_of (cond b (answered after) (refuse 1 s))
+    go : (b : Bool) → send_admitted (state_of s) (cond b (Ok (moment (read_as at))) (Err NotAdmitted)) ≡ reply_of (cond b (answered after) (refuse 1 s))
     go true = answered_reply false after
     go false = sym (reply_1 s)
 

@@ -4,8 +4,9 @@ use mathlib.Core.Bool.{Bool, true, false, ◌&&◌, ◌||◌, cond}
 use Prim.Native.Nat.{ℕ}
 use lib.Dec.{eqb, leb}
 use lib.Ieee.{Float}
+use Rattle.std.specs.Prelude.{Ok, Err}
+use Rattle.refusal.specs.declared.Refusal.TheVariants.{NotAdmitted}
 use Rattle.quantities.specs.declared.Time.{Time}
-use Rattle.quantities.specs.declared.Admitted.TheVariants as moments
 use Rattle.quantities.specs.Time.{moment, read_moment, admitted, admit_of}
 use Rattle.remy.specs.declared.action.Action.{Action}
 use Rattle.remy.specs.Cube.{root_of, contains_of}
@@ -65,7 +66,7 @@ module _ (P : Reply → ℕ → Type 0) (refused : (k : ℕ) → eqb k 0 ≡ fal
   admitted-ways :
       (t : RuleTree) (s : Sender) (sent received : Time) (draw : Draw) (a b : Bool) (n : ℕ)
       → P (ack_pending t (remembered s sent received) s.next_change draw) n
-      → P (ack_admitted t s (cond a (moments.At sent) (moments.Refused 1)) (cond b (moments.At received) (moments.Refused 1)) draw) (cond (a && b) n 1)
+      → P (ack_admitted t s (cond a (Ok sent) (Err NotAdmitted)) (cond b (Ok received) (Err NotAdmitted)) draw) (cond (a && b) n 1)
   unfolding ack_admitted
   admitted-ways t s sent received draw true true n q = q
   admitted-ways t s sent received draw true false n q = refused 1 refl

@@ -4,9 +4,11 @@ use mathlib.Core.Bool.{Bool, true, false, ◌&&◌, ◌||◌, cond}
 use Prim.Native.Nat.{ℕ}
 use lib.Dec.{leb}
 use lib.Ieee.{Float}
+use Rattle.std.specs.Prelude.{Result, Ok, Err}
+use Rattle.refusal.specs.declared.Refusal.{Refusal}
+use Rattle.refusal.specs.declared.Refusal.TheVariants.{NotAdmitted}
+use Rattle.refusal.specs.Numbers as refusal
 use Rattle.quantities.specs.declared.Time.{Time}
-use Rattle.quantities.specs.declared.Admitted.{Admitted}
-use Rattle.quantities.specs.declared.Admitted.TheVariants as moments
 use Rattle.quantities.specs.Time.{moment, read_moment, admitted, admit_of}
 use Rattle.remy.specs.declared.action.Action.{Action}
 use Rattle.remy.specs.Cube.{root_of, contains_of}
@@ -40,8 +42,8 @@ abbrev replies : Reply → ℕ
 replies r = (reply_told r).number
 
 pub admit_number : (x : Float) → (admitted_told (admit_of x)).number ≡ first_of (admit_order x)
-unfolding admit_of admitted_told first_of
-admit_number x = next (λ (r : Admitted). (admitted_told r).number) (admitted x) refl refl
+unfolding admit_of admitted_told first_of refusal.number_of
+admit_number x = next (λ (r : Result Time Refusal). (admitted_told r).number) (admitted x) refl refl
 
 pub made_number : (mode : RepeatMode) → (made_told (new_of mode)).number ≡ first_of (made_order mode)
 unfolding new_of made_told first_of
@@ -49,7 +51,7 @@ made_number mode = next (λ (r : Made). (made_told r).number) (mode_holds mode) 
 
 pub send_number : (s : Sender) (at : Float) → (reply_told (send_of s at)).number ≡ first_of (send_order at)
 unfolding send_admitted admit_of reply_told first_of
-send_number s at = next (λ (m : Admitted). (reply_told (send_admitted s m)).number) (admitted at) refl refl
+send_number s at = next (λ (m : Result Time Refusal). (reply_told (send_admitted s m)).number) (admitted at) refl refl
 
 -- a wake at an admitted moment is not refused
 wake_in_number : (s : Sender) (m : Moment) (now : Time) → (wake_told (wake_in s m now)).number ≡ 0
@@ -60,7 +62,7 @@ wake_in_number s (moments-kept.At sent) now = refl
 pub wake_number : (s : Sender) (now : Float) → (wake_told (wake_of s now)).number ≡ first_of (wake_order now)
 unfolding wake_admitted admit_of wake_told first_of
 wake_number s now =
-    next (λ (m : Admitted). (wake_told (wake_admitted s m)).number) (admitted now)
+    next (λ (m : Result Time Refusal). (wake_told (wake_admitted s m)).number) (admitted now)
     (wake_in_number s s.last_send (moment (read_moment now))) refl
 
 -- ---- an ack
@@ -88,7 +90,7 @@ pending_number t m Idle draw =
 admitted_number :
     (t : RuleTree) (s : Sender) (sent received : Time) (draw : Draw) (a b : Bool) (n : ℕ)
     → (reply_told (ack_pending t (remembered s sent received) s.next_change draw)).number ≡ n
-    → (reply_told (ack_admitted t s (cond a (moments.At sent) (moments.Refused 1)) (cond b (moments.At received) (moments.Refused 1)) draw)).number
+    → (reply_told (ack_admitted t s (cond a (Ok sent) (Err NotAdmitted)) (cond b (Ok received) (Err NotAdmitted)) draw)).number
     ≡ cond (a && b) n 1
 unfolding ack_admitted reply_told
 admitted_number t s sent received draw true true n h = h

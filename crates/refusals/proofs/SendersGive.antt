@@ -2,8 +2,10 @@
 use mathlib.Core.Path.{◌≡◌, refl, ap, ◌∙◌}
 use mathlib.Core.Bool.{cond}
 use lib.Ieee.{Float}
+use Rattle.std.specs.Prelude.{Result}
+use Rattle.refusal.specs.declared.Refusal.{Refusal}
+use Rattle.refusal.specs.Numbers as refusal
 use Rattle.quantities.specs.declared.Time.{Time}
-use Rattle.quantities.specs.declared.Admitted.{Admitted}
 use Rattle.quantities.specs.Time.{moment, read_moment, admitted, admit_of}
 use Rattle.sender.specs.declared.Moment.{Moment}
 use Rattle.sender.specs.declared.Moment.TheVariants as moments-kept
@@ -21,8 +23,8 @@ use Rattle.refusals.proofs.Ways.{Gives, both}
 use Rattle.refusals.proofs.SendersKept.{face_told}
 
 pub admit_gives_lem : (x : Float) → (admitted_told (admit_of x)).gives ≡ cond (passes (admit_order x)) (admit_gives x) none
-unfolding admit_of admitted_told first_of
-admit_gives_lem x = both (Gives (λ (r : Admitted). (admitted_told r).gives) (admit_gives x)) (admitted x) refl refl
+unfolding admit_of admitted_told first_of refusal.number_of
+admit_gives_lem x = both (Gives (λ (r : Result Time Refusal). (admitted_told r).gives) (admit_gives x)) (admitted x) refl refl
 
 pub made_gives_lem : (mode : RepeatMode) → (made_told (new_of mode)).gives ≡ cond (passes (made_order mode)) (made_gives mode) none
 unfolding new_of made_told first_of
@@ -30,7 +32,7 @@ made_gives_lem mode = both (Gives (λ (r : Made). (made_told r).gives) (made_giv
 
 pub send_gives_lem : (s : Sender) (at : Float) → (reply_told (send_of s at)).gives ≡ cond (passes (send_order at)) send_gives none
 unfolding send_admitted admit_of window_in reply_told first_of
-send_gives_lem s at = both (Gives (λ (m : Admitted). (reply_told (send_admitted s m)).gives) send_gives) (admitted at) refl refl
+send_gives_lem s at = both (Gives (λ (m : Result Time Refusal). (reply_told (send_admitted s m)).gives) send_gives) (admitted at) refl refl
 
 pub face_send_gives : (s : Sender) (at : Float) → (answer_told (window_from (send_of s at))).gives ≡ cond (passes (send_order at)) send_gives none
 face_send_gives s at = ap (λ (r : Told Handed). r.gives) (face_told (send_of s at)) ∙ send_gives_lem s at
@@ -43,5 +45,5 @@ wake_in_gives s (moments-kept.At sent) now = refl
 pub wake_gives_lem : (s : Sender) (now : Float) → (wake_told (wake_of s now)).gives ≡ cond (passes (wake_order now)) (wake_gives s now) none
 unfolding wake_admitted admit_of wake_told first_of
 wake_gives_lem s now =
-    both (Gives (λ (m : Admitted). (wake_told (wake_admitted s m)).gives) (wake_gives s now)) (admitted now)
+    both (Gives (λ (m : Result Time Refusal). (wake_told (wake_admitted s m)).gives) (wake_gives s now)) (admitted now)
     (wake_in_gives s s.last_send (moment (read_moment now))) refl

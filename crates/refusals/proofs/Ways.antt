@@ -4,10 +4,13 @@ use mathlib.Core.Bool.{Bool, true, false, cond}
 use Prim.Native.Nat.{ℕ}
 use lib.Dec.{eqb}
 use mathlib.Core.List.{List, [], ◌∷◌}
-use Rattle.refusal.specs.Guards.{Test, guarded}
+use Rattle.std.specs.Prelude.{Result, Err}
+use Rattle.refusal.specs.declared.Refusal.{Refusal}
+use Rattle.refusal.specs.Numbers.{number_of}
+use Rattle.refusal.specs.Guards.{Test, guarded, Check, checked}
 pub use Rattle.refusal.proofs.Guards.{either, both}
-use Rattle.refusal.proofs.Guards.{Hold}
-use Rattle.refusals.specs.Told.{Given, none, Told, refused_with}
+use Rattle.refusal.proofs.Guards.{Hold, Pass}
+use Rattle.refusals.specs.Told.{Given, none, Told, refused_with, told_by}
 
 pub next : {A : Type 0} (f : A → ℕ) (b : Bool) {x y : A} {m k : ℕ} → f x ≡ m → f y ≡ k → f (cond b x y) ≡ cond b m k
 next f true p q = p
@@ -36,3 +39,14 @@ tells {A} {B} f refuse answer (t ∷ ts) {v} r a = go t.holds refl (λ e. tells 
         → f (cond b (guarded ts refuse answer) (refuse t.number)) ≡ cond b (guarded ts refused_with v) (refused_with t.number)
     go true e g = g e
     go false e g = r t.number
+
+-- the same of an answer that is refused by kind
+pub tells_by : {A B : Type 0} (f : Result A Refusal → Told B) (answer : Result A Refusal) (ts : List Check) {v : Told B}
+    → ((r : Refusal) → f (Err r) ≡ refused_with (number_of r)) → (Pass ts → f answer ≡ v) → f (checked ts answer) ≡ told_by ts v
+tells_by f answer [] r a = a tt
+tells_by {A} {B} f answer (t ∷ ts) {v} r a = go t.holds refl (λ e. tells_by f answer ts r (λ h. a (e, h)))
+  where
+    go : (b : Bool) → t.holds ≡ b → (t.holds ≡ true → f (checked ts answer) ≡ told_by ts v)
+        → f (cond b (checked ts answer) (Err t.refusal)) ≡ cond b (told_by ts v) (refused_with (number_of t.refusal))
+    go true e g = g e
+    go false e g = r t.refusal

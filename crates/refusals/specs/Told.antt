@@ -1,8 +1,9 @@
 -- 01: "Where an answer is an enum, a definition sets out this paper's number and values for each of its cases."
-use Rattle.std.specs.Prelude.{Bool, ℕ, Float}
+use Rattle.std.specs.Prelude.{Bool, cond, List, [], ◌∷◌, ℕ, Float, Option, Some, None, Result, Ok, Err}
+use Rattle.refusal.specs.declared.Refusal.{Refusal}
+use Rattle.refusal.specs.Numbers.{number_of}
+use Rattle.refusal.specs.Guards.{Check}
 use Rattle.quantities.specs.declared.Time.{Time}
-use Rattle.quantities.specs.declared.Admitted.{Admitted}
-use Rattle.quantities.specs.declared.Admitted.TheVariants as admitted
 use Rattle.remy.specs.declared.action.Action.{Action}
 use Rattle.remy.specs.declared.cube.Cube.{Cube}
 use Rattle.rule_tree.specs.declared.Looked.{Looked}
@@ -55,6 +56,22 @@ gave_none = record { number = 0; gives = none }
 
 abbrev pub refused_with : {A : Type 0} → ℕ → Told A
 refused_with k = record { number = k; gives = none }
+
+-- an answer that is a value or none
+unfoldable pub option_told : {A : Type 0} → Option A → Told A
+option_told (Some x) = gave x
+option_told None = gave_none
+
+-- the same of a call that may be refused
+unfoldable pub maybe_told : {A : Type 0} → Result (Option A) Refusal → Told A
+unfolding option_told
+maybe_told (Ok x) = option_told x
+maybe_told (Err r) = refused_with (number_of r)
+
+-- refused with the number of the first check that fails, else told as given
+abbrev pub told_by : {A : Type 0} → List Check → Told A → Told A
+told_by [] v = v
+told_by (t ∷ ts) v = cond t.holds (told_by ts v) (refused_with (number_of t.refusal))
 
 -- ---- the tree
 -- a lookup gives an action, or none outside the root box
@@ -116,9 +133,9 @@ saved_told (saved.Size n) = gave n
 saved_told (saved.Refused k) = refused_with k
 
 -- ---- moments and the sender
-unfoldable pub admitted_told : Admitted → Told Time
-admitted_told (admitted.At t) = gave t
-admitted_told (admitted.Refused k) = refused_with k
+unfoldable pub admitted_told : Result Time Refusal → Told Time
+admitted_told (Ok t) = gave t
+admitted_told (Err r) = refused_with (number_of r)
 
 unfoldable pub made_told : Made → Told Sender
 made_told (made.Ready s) = gave s

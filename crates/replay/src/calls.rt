@@ -1,6 +1,6 @@
 // The calls, each with the lines that it prints.
 use crate::{bursts, draws, input, lines, trees};
-use ranges::{Leaves, Ranges};
+use ranges::Ranges;
 use record::Saved;
 use rule_tree::{AugmentedRuleTree, Changed, RuleTree, Tallied};
 use sender::{Reply, Sender};
@@ -290,11 +290,11 @@ fn undo_split(r: Replay, out: &mut [u8]) -> Replay {
 // The leaves within ranges, into a lent list, and their line.
 fn leaves_line(out: &mut [u8], at: usize, t: RuleTree, r: Ranges, list: &mut [u16]) -> usize {
     match ranges::leaves_within(t, r, list) {
-        Leaves::Found(n) => {
-            let k = input::among_nodes(n as usize, list);
+        Ok(n) => {
+            let k = input::among_nodes(usize::from(n), list);
             lines::leaves(out, at, n, &list[..k])
         }
-        Leaves::Refused(number) => lines::refused(out, at, number),
+        Err(why) => lines::refused(out, at, why.number()),
     }
 }
 

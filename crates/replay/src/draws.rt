@@ -1,7 +1,8 @@
 // The calls of the generator, and acks with a draw of its own. Where there is none yet it is four zeros.
 use crate::calls::Replay;
 use crate::{calls, input, lines};
-use xoshiro::{Made, State, Turn};
+use refusal::Refusal;
+use xoshiro::State;
 
 pub(crate) fn none() -> State {
     State {
@@ -19,16 +20,19 @@ fn kept(mut r: Replay, s: State, at: usize, out: &mut [u8]) -> Replay {
     r
 }
 
-fn made(r: Replay, m: Made, out: &mut [u8]) -> Replay {
-    match m {
-        Made::Ready(s) => {
+// A call that was refused: the generator stays.
+fn refused(r: Replay, why: Refusal, out: &mut [u8]) -> Replay {
+    let at = lines::refused(out, r.at, why.number());
+    calls::printed(r, at)
+}
+
+fn made(r: Replay, answer: Result<State, Refusal>, out: &mut [u8]) -> Replay {
+    match answer {
+        Ok(s) => {
             let at = r.at;
             kept(r, s, at, out)
         }
-        Made::Refused(number) => {
-            let at = lines::refused(out, r.at, number);
-            calls::printed(r, at)
-        }
+        Err(why) => refused(r, why, out),
     }
 }
 
@@ -41,38 +45,27 @@ fn seed(r: Replay, fields: &[u8], out: &mut [u8]) -> Replay {
 }
 
 fn step(r: Replay, out: &mut [u8]) -> Replay {
-    let s = r.generator;
-    match s.step() {
-        Turn::Taken(stepped) => {
+    match r.generator.step() {
+        Ok(stepped) => {
             let at = lines::output_number(out, r.at, stepped.output);
-            let next = stepped.state;
-            kept(r, next, at, out)
+            kept(r, stepped.state, at, out)
         }
-        Turn::Refused(number) => {
-            let at = lines::refused(out, r.at, number);
-            calls::printed(r, at)
-        }
+        Err(why) => refused(r, why, out),
     }
 }
 
 fn step_back(r: Replay, out: &mut [u8]) -> Replay {
-    let s = r.generator;
-    made(r, s.step_back(), out)
+    let before = r.generator.step_back();
+    made(r, before, out)
 }
 
 fn ack(r: Replay, fields: &[u8], out: &mut [u8]) -> Replay {
-    let trainer = r.trainer;
-    let tree = trainer.tree;
-    let s = r.sender;
-    let generator = r.generator;
     let sent = input::float_at(fields, 0);
     let received = input::float_at(fields, 8);
-    let drawn = own_draws::ack_received(s, generator, tree, sent, received);
-    let reply = drawn.reply;
-    let next = drawn.generator;
-    let r = calls::replied(r, reply, out);
+    let drawn = own_draws::ack_received(r.sender, r.generator, r.trainer.tree, sent, received);
+    let r = calls::replied(r, drawn.reply, out);
     let at = r.at;
-    kept(r, next, at, out)
+    kept(r, drawn.generator, at, out)
 }
 
 pub(crate) fn call(r: Replay, code: u8, fields: &[u8], out: &mut [u8]) -> Replay {

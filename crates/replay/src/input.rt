@@ -86,21 +86,11 @@ pub(crate) fn float_at(bytes: &[u8], at: usize) -> f64
     floats::from_bits(long_at(bytes, at))
 }
 
-// The number whose 32 bits are those of b.
-fn signed(b: u32) -> i32 {
-    let wide = b as i64;
-    if b < 2147483648 {
-        wide as i32
-    } else {
-        (wide - 4294967296) as i32
-    }
-}
-
 pub(crate) fn action_at(bytes: &[u8], at: usize) -> Action
     requires { at + 20 ≤ 65536 }
 {
     let multiplier = float_at(bytes, at);
-    let increment = signed(word_at(bytes, at + 8) as u32);
+    let increment = (word_at(bytes, at + 8) as u32).cast_signed();
     let delay = float_at(bytes, at + 12);
     Action::new(multiplier, increment, delay)
 }

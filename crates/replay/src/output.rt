@@ -57,26 +57,14 @@ pub(crate) fn named(out: &mut [u8], at: usize, word: &[u8], n: u64) -> usize {
     number(out, next, n)
 }
 
-// The 32 bits of n.
-fn bits_of(n: i32) -> u64
-    ensures { result < 4294967296 }
-{
-    let wide = n as i64;
-    if wide < 0 {
-        (wide + 4294967296) as u64
-    } else {
-        wide as u64
-    }
-}
-
 pub(crate) fn signed(out: &mut [u8], at: usize, n: i32) -> usize {
-    let bits = bits_of(n);
+    let size = u64::from(n.unsigned_abs());
     let next = byte(out, at, b' ');
-    if bits < 2147483648 {
-        return decimal(out, next, bits);
+    if n < 0 {
+        let next = byte(out, next, b'-');
+        return decimal(out, next, size);
     }
-    let next = byte(out, next, b'-');
-    decimal(out, next, 4294967296 - bits)
+    decimal(out, next, size)
 }
 
 pub(crate) fn float(out: &mut [u8], at: usize, x: f64) -> usize {

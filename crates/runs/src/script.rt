@@ -1,7 +1,5 @@
 // A script in 64-bit words, read by place; what lies past the end reads as 0.
 ghost use Rattle.std.specs.Prelude.{◌≡◌, ◌+◌, ◌≤◌, length};
-ghost use Rattle.std.specs.Int.{w32};
-ghost use Rattle.std.proofs.Common.{to_z};
 ghost use Rattle.runs.specs.Script as spec;
 ghost use Rattle.quantities.specs.Time.{moment};
 ghost use Rattle.runs.specs.Turn.{fixed_size, listed_size, whole_size};
@@ -30,24 +28,12 @@ pub(crate) fn float(ws: &[u64], i: usize) -> f64
     floats::from_bits(word(ws, i))
 }
 
-// The number whose 32 bits are b.
-fn signed(b: u32) -> i32
-    ensures { result ≡ to_z w32 b }
-{
-    let wide = b as i64;
-    if b < 2147483648 {
-        wide as i32
-    } else {
-        (wide - 4294967296) as i32
-    }
-}
-
 fn action(ws: &[u64], i: usize) -> Action
     requires { i ≤ 65536 }
     ensures { result ≡ spec.action ws.now i }
 {
     let multiplier = float(ws, i);
-    let increment = signed(number(ws, i + 1));
+    let increment = number(ws, i + 1).cast_signed();
     let delay = float(ws, i + 2);
     Action::new(multiplier, increment, delay)
 }

@@ -55,24 +55,12 @@ pub(crate) fn put_bytes(out: &mut [u64], at: usize, bytes: &[u8]) -> usize
     next
 }
 
-// The 32 bits of x.
-fn bits_of(x: i32) -> u64
-    ensures { result ≡ of_z w32 x }
-{
-    let wide = x as i64;
-    if wide < 0 {
-        (wide + 4294967296) as u64
-    } else {
-        wide as u64
-    }
-}
-
 fn put_action(out: &mut [u64], at: usize, a: Action) -> usize
     requires { at ≤ length out.old }
     ensures { Puts out.old at (action_words a) result out.new }
 {
     let multiplier = floats::to_bits(a.window_multiplier);
-    let increment = bits_of(a.window_increment);
+    let increment = u64::from(a.window_increment.cast_unsigned());
     let delay = floats::to_bits(a.intersend_delay.0);
     let next = put_pair(out, at, multiplier, increment);
     put(out, next, delay)

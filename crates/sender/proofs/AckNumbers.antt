@@ -6,8 +6,9 @@ use Prim.Native.Nat.{ℕ, ◌<◌}
 use native.Mathlib.Omega.{arith}
 use lib.Dec.{T}
 use lib.Ieee.{Float}
-use Rattle.quantities.specs.declared.Admitted.{Admitted}
-use Rattle.quantities.specs.declared.Admitted.TheVariants as admitted
+use Rattle.std.specs.Prelude.{Result, Ok, Err}
+use Rattle.refusal.specs.declared.Refusal.{Refusal}
+use Rattle.quantities.specs.declared.Time.{Time}
 use Rattle.quantities.specs.Time.{admit_of}
 use Rattle.remy.specs.declared.action.Action.{Action}
 use Rattle.rule_tree.specs.declared.RuleTree.{RuleTree}
@@ -47,11 +48,11 @@ unfolding ack_pending
 pending_so t m (Repeat left a) draw = tt
 pending_so t m Idle draw = found_so m (found_in t (point_of m)) draw
 
-admitted_so : (t : RuleTree) (s : Sender) (x y : Admitted) (draw : Draw) → Numbered (ack_admitted t s x y draw)
+admitted_so : (t : RuleTree) (s : Sender) (x y : Result Time Refusal) (draw : Draw) → Numbered (ack_admitted t s x y draw)
 unfolding ack_admitted
-admitted_so t s (admitted.At sent) (admitted.At received) draw = pending_so t (remembered s sent received) s.next_change draw
-admitted_so t s (admitted.At sent) (admitted.Refused k) draw = omega arith
-admitted_so t s (admitted.Refused k) y draw = omega arith
+admitted_so t s (Ok sent) (Ok received) draw = pending_so t (remembered s sent received) s.next_change draw
+admitted_so t s (Ok sent) (Err k) draw = omega arith
+admitted_so t s (Err k) y draw = omega arith
 
 module _ (t : RuleTree) where
   ack_so : (s : Sender) (sent received : Float) (draw : Draw) → Numbered (ack_of t s sent received draw)

@@ -5,8 +5,9 @@ use mathlib.Core.List.{List}
 use Prim.Native.Nat.{ℕ, ◌<◌}
 use native.Mathlib.Omega.{arith}
 use lib.Ieee.{Float}
-use Rattle.quantities.specs.declared.Admitted.{Admitted}
-use Rattle.quantities.specs.declared.Admitted.TheVariants as admitted
+use Rattle.std.specs.Prelude.{Result, Ok, Err}
+use Rattle.refusal.specs.declared.Refusal.{Refusal}
+use Rattle.quantities.specs.declared.Time.{Time}
 use Rattle.quantities.specs.Time.{admit_of}
 use Rattle.remy.specs.declared.action.Action.{Action}
 use Rattle.remy.specs.declared.point.Point.{Point}
@@ -55,11 +56,11 @@ module _ (cs : List ℕ) (root : Cube) (ready : Ready cs root) where
   pending_node m (Repeat left a) = omega arith
   pending_node m Idle = leaf_node_lem m (point_of m) (leaf_holding cs root (point_of m)) refl
 
-  admitted_node : (s : Sender) (x y : Admitted) → node_of (ask_admitted cs root s x y) < 513
+  admitted_node : (s : Sender) (x y : Result Time Refusal) → node_of (ask_admitted cs root s x y) < 513
   unfolding node_of ask_admitted
-  admitted_node s (admitted.At sent) (admitted.At received) = pending_node (remembered s sent received) s.next_change
-  admitted_node s (admitted.At sent) (admitted.Refused k) = omega arith
-  admitted_node s (admitted.Refused k) y = omega arith
+  admitted_node s (Ok sent) (Ok received) = pending_node (remembered s sent received) s.next_change
+  admitted_node s (Ok sent) (Err k) = omega arith
+  admitted_node s (Err k) y = omega arith
 
   asked_node : (s : Sender) (e : Event) → node_of (ask_for cs root s e) < 513
   unfolding node_of ask_for
@@ -91,12 +92,12 @@ module _ (t : RuleTree) where
       leaf_by m draw (leaf_holding (children_of t.nodes) (root_of t.ends) (point_of m))
       ∙ ap (λ (l : Looked). ack_with m l draw) (found_by_lem t (point_of m))
 
-  admitted_by : (s : Sender) (draw : Draw) (x y : Admitted)
+  admitted_by : (s : Sender) (draw : Draw) (x y : Result Time Refusal)
       → by draw (ask_admitted (children_of t.nodes) (root_of t.ends) s x y) ≡ ack_admitted t s x y draw
   unfolding node_of answered ask_admitted ack_admitted
-  admitted_by s draw (admitted.At sent) (admitted.At received) = pending_by (remembered s sent received) draw s.next_change
-  admitted_by s draw (admitted.At sent) (admitted.Refused k) = refl
-  admitted_by s draw (admitted.Refused k) y = refl
+  admitted_by s draw (Ok sent) (Ok received) = pending_by (remembered s sent received) draw s.next_change
+  admitted_by s draw (Ok sent) (Err k) = refl
+  admitted_by s draw (Err k) y = refl
 
   event_by : grown_of t ≡ true → (s : Sender) (e : Event)
       → by (draw_of e) (ask_for (children_of t.nodes) (root_of t.ends) s e) ≡ replied_to s (on t e)

@@ -5,9 +5,9 @@ use mathlib.Core.Bool.{Bool, true, false, cond}
 use mathlib.Core.List.{List, [], ◌∷◌}
 use Prim.Native.Nat.{ℕ}
 use lib.Ieee.{Float}
+use Rattle.std.specs.Prelude.{Result, Ok, Err}
+use Rattle.refusal.specs.declared.Refusal.{Refusal}
 use Rattle.quantities.specs.declared.Time.{Time}
-use Rattle.quantities.specs.declared.Admitted.{Admitted}
-use Rattle.quantities.specs.declared.Admitted.TheVariants as admitted
 use Rattle.quantities.specs.Time.{between, admit_of}
 use Rattle.remy.specs.declared.action.Action.{Action}
 use Rattle.remy.specs.declared.point.Point.{Point}
@@ -107,9 +107,9 @@ send_same : (s u : Sender) (at : Float) → Same s u → Same (after s (send at)
 unfolding after left_by send_admitted
 send_same s u at e = go (admit_of at)
   where
-    go : (x : Admitted) → Same (left_by s (send_admitted s x)) u
-    go (admitted.At t) = record { past = e.past; mode = e.mode }
-    go (admitted.Refused k) = e
+    go : (x : Result Time Refusal) → Same (left_by s (send_admitted s x)) u
+    go (Ok t) = record { past = e.past; mode = e.mode }
+    go (Err k) = e
 
 tick_same : (s u : Sender) → Same s u → Same (tick_of s).sender u
 tick_same s u e = record { past = e.past; mode = e.mode }
@@ -186,14 +186,14 @@ module _ {s u : Sender} (e : Same s u) (t : RuleTree) (draw : Draw) where
       subst (λ (p : Point). Alike s u (ack_with m (found_in t (point_of m)) draw) (ack_with n (found_in t p) draw))
       (ap looked_at mn.past) (with_alike mn (found_in t (point_of m)))
 
-  admitted_alike : (x y : Admitted) → Alike s u (ack_admitted t s x y draw) (ack_admitted t u x y draw)
+  admitted_alike : (x y : Result Time Refusal) → Alike s u (ack_admitted t s x y draw) (ack_admitted t u x y draw)
   unfolding ack_admitted
-  admitted_alike (admitted.At x) (admitted.At y) =
+  admitted_alike (Ok x) (Ok y) =
       subst
       (λ (p : Pending). Alike s u (ack_pending t (remembered s x y) s.next_change draw) (ack_pending t (remembered u x y) p draw))
       (ap (λ (p : Past). p.next_change_lem) e.past) (pending_alike (remembered_same x y e) s.next_change)
-  admitted_alike (admitted.At x) (admitted.Refused k) = refused_alike 1
-  admitted_alike (admitted.Refused k) y = refused_alike 1
+  admitted_alike (Ok x) (Err k) = refused_alike 1
+  admitted_alike (Err k) y = refused_alike 1
 
   pub ack_alike : (sent received : Float) → Alike s u (ack_of t s sent received draw) (ack_of t u sent received draw)
   unfolding ack_of

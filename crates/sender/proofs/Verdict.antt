@@ -4,8 +4,8 @@ use mathlib.Core.Bool.{Bool, true, false, cond}
 use Prim.Native.Nat.{ℕ}
 use native.Mathlib.Omega.{arith}
 use lib.Ieee.{Float}
+use Rattle.std.specs.Prelude.{Ok}
 use Rattle.quantities.specs.declared.Time.{Time}
-use Rattle.quantities.specs.declared.Admitted.TheVariants as admitted
 use Rattle.quantities.specs.Time.{admit_of}
 use Rattle.remy.specs.declared.action.Action.{Action}
 use Rattle.remy.specs.Action.{window_of, rule_of}
@@ -138,8 +138,8 @@ module _ (t : RuleTree) (s : Sender) (from at : Time) (draw : Draw) where
   only_taken h (taken {a} {next} b) e = (a, next, b, subst (λ (z : Held). Paced s a z) (cc) (paced_so a next))
 
 -- ---- the laws, over the answer to an ack at admitted moments
-module _ (t : RuleTree) (s : Sender) (sent received : Float) (draw : Draw) (from at : Time) (f : admit_of sent ≡ admitted.At from)
-    (g : admit_of received ≡ admitted.At at)
+module _ (t : RuleTree) (s : Sender) (sent received : Float) (draw : Draw) (from at : Time) (f : admit_of sent ≡ Ok from)
+    (g : admit_of received ≡ Ok at)
   where
     is : ack_in t s sent received draw ≡ ack_at t s from at draw
     unfolding ack_admitted

@@ -3,9 +3,9 @@ use mathlib.Core.Path.{◌≡◌, ap}
 use mathlib.Core.List.{List}
 use Prim.Native.Nat.{ℕ}
 use lib.Ieee.{Float}
+use Rattle.std.specs.Prelude.{Result, Ok, Err}
+use Rattle.refusal.specs.declared.Refusal.{Refusal}
 use Rattle.quantities.specs.declared.Time.{Time}
-use Rattle.quantities.specs.declared.Admitted.{Admitted}
-use Rattle.quantities.specs.declared.Admitted.TheVariants as admitted
 use Rattle.quantities.specs.Time.{admit_of}
 use Rattle.remy.specs.declared.action.Action.{Action}
 use Rattle.remy.specs.declared.point.Point.{Point}
@@ -22,17 +22,17 @@ use Rattle.sender.specs.Memory.{remembered, point_of}
 use Rattle.sender.specs.Acks.{settled, repeat_next}
 use Rattle.sender.specs.Asks.{ask_leaf, ask_pending, ask_admitted, ask_of}
 
-module _ (cs : List ℕ) (root : Cube) (s : Sender) (sent received : Float) {x : Admitted} (p : x ≡ admit_of sent) where
-  pub unsent : {k : ℕ} → x ≡ admitted.Refused k → Answer (Refused 1) ≡ ask_of cs root s sent received
+module _ (cs : List ℕ) (root : Cube) (s : Sender) (sent received : Float) {x : Result Time Refusal} (p : x ≡ admit_of sent) where
+  pub unsent : {k : Refusal} → x ≡ Err k → Answer (Refused 1) ≡ ask_of cs root s sent received
   unfolding ask_admitted
   unsent e = rw (← p, e)
 
-  module _ {y : Admitted} {from : Time} (e : x ≡ admitted.At from) (q : y ≡ admit_of received) where
-    pub unreceived : {k : ℕ} → y ≡ admitted.Refused k → Answer (Refused 1) ≡ ask_of cs root s sent received
+  module _ {y : Result Time Refusal} {from : Time} (e : x ≡ Ok from) (q : y ≡ admit_of received) where
+    pub unreceived : {k : Refusal} → y ≡ Err k → Answer (Refused 1) ≡ ask_of cs root s sent received
     unfolding ask_admitted
     unreceived f = rw (← p, e, ← q, f)
 
-    module _ {at : Time} (f : y ≡ admitted.At at) {m : Sender} (is : m ≡ remembered s from at) where
+    module _ {at : Time} (f : y ≡ Ok at) {m : Sender} (is : m ≡ remembered s from at) where
       asks : ask_pending cs root m m.next_change ≡ ask_of cs root s sent received
       unfolding ask_admitted
       asks = rw (← p, e, ← q, f) (ap (λ (z : Sender). ask_pending cs root z z.next_change) is)

@@ -1,9 +1,8 @@
 -- 01, "the sender": an ack over a tree that was tested.
-use Rattle.std.specs.Prelude.{◌&&◌, cond, ℕ, ◌-◌, eqb, leb, Float}
+use Rattle.std.specs.Prelude.{◌&&◌, cond, ℕ, ◌-◌, eqb, leb, Float, Result, Ok, Err}
 use Rattle.refusal.specs.Numbers.{no_draw, no_rule, not_admitted}
+use Rattle.refusal.specs.declared.Refusal.{Refusal}
 use Rattle.quantities.specs.declared.Time.{Time}
-use Rattle.quantities.specs.declared.Admitted.{Admitted}
-use Rattle.quantities.specs.declared.Admitted.TheVariants as admitted
 use Rattle.quantities.specs.Time.{admit_of}
 use Rattle.remy.specs.declared.action.Action.{Action}
 use Rattle.remy.specs.Action.{window_of, rule_of}
@@ -93,11 +92,11 @@ abbrev pub ack_at : RuleTree → Sender → Time → Time → Draw → Reply
 ack_at t s sent received draw = ack_pending t (remembered s sent received) s.next_change draw
 
 -- 1, then 22, then 5
-unfoldable pub ack_admitted : RuleTree → Sender → Admitted → Admitted → Draw → Reply
+unfoldable pub ack_admitted : RuleTree → Sender → Result Time Refusal → Result Time Refusal → Draw → Reply
 unfolding ack_pending
-ack_admitted t s (admitted.At sent) (admitted.At received) draw = ack_at t s sent received draw
-ack_admitted t s (admitted.At sent) (admitted.Refused k) draw = Refused not_admitted
-ack_admitted t s (admitted.Refused k) received draw = Refused not_admitted
+ack_admitted t s (Ok sent) (Ok received) draw = ack_at t s sent received draw
+ack_admitted t s (Ok sent) (Err k) draw = Refused not_admitted
+ack_admitted t s (Err k) received draw = Refused not_admitted
 
 abbrev pub ack_in : RuleTree → Sender → Float → Float → Draw → Reply
 ack_in t s sent received draw = ack_admitted t s (admit_of sent) (admit_of received) draw

@@ -1,8 +1,8 @@
 -- An ack or an event in two steps: what it asks for of a tree, given the tree's links and root, and its answer with that node's action.
-use Rattle.std.specs.Prelude.{List, ℕ, Float}
+use Rattle.std.specs.Prelude.{List, ℕ, Float, Result, Ok, Err}
 use Rattle.refusal.specs.Numbers.{no_rule, not_admitted}
-use Rattle.quantities.specs.declared.Admitted.{Admitted}
-use Rattle.quantities.specs.declared.Admitted.TheVariants as admitted
+use Rattle.refusal.specs.declared.Refusal.{Refusal}
+use Rattle.quantities.specs.declared.Time.{Time}
 use Rattle.quantities.specs.Time.{admit_of}
 use Rattle.remy.specs.declared.action.Action.{Action}
 use Rattle.remy.specs.declared.cube.Cube.{Cube}
@@ -35,11 +35,11 @@ unfolding ask_leaf
 ask_pending cs root m (Repeat left a) = Answer (settled m a (repeat_next left a))
 ask_pending cs root m Idle = ask_leaf m (leaf_holding cs root (point_of m))
 
-unfoldable pub ask_admitted : List ℕ → Cube → Sender → Admitted → Admitted → Asked
+unfoldable pub ask_admitted : List ℕ → Cube → Sender → Result Time Refusal → Result Time Refusal → Asked
 unfolding ask_pending
-ask_admitted cs root s (admitted.At sent) (admitted.At received) = ask_pending cs root (remembered s sent received) s.next_change
-ask_admitted cs root s (admitted.At sent) (admitted.Refused k) = Answer (Refused not_admitted)
-ask_admitted cs root s (admitted.Refused k) received = Answer (Refused not_admitted)
+ask_admitted cs root s (Ok sent) (Ok received) = ask_pending cs root (remembered s sent received) s.next_change
+ask_admitted cs root s (Ok sent) (Err k) = Answer (Refused not_admitted)
+ask_admitted cs root s (Err k) received = Answer (Refused not_admitted)
 
 -- what an ack asks for
 abbrev pub ask_of : List ℕ → Cube → Sender → Float → Float → Asked

@@ -1,10 +1,9 @@
 -- What each public call on a sender answers, refusals first and in 01's order.
-use Rattle.std.specs.Prelude.{Bool, true, false, ◌&&◌, cond, [], ◌∷◌, leb, Float}
+use Rattle.std.specs.Prelude.{Bool, true, false, ◌&&◌, cond, [], ◌∷◌, leb, Float, Result, Ok, Err}
 use Rattle.refusal.specs.Numbers.{not_grown}
 use Rattle.refusal.specs.Numbers.{bad_settings, not_admitted, not_grown}
+use Rattle.refusal.specs.declared.Refusal.{Refusal}
 use Rattle.quantities.specs.declared.Time.{Time}
-use Rattle.quantities.specs.declared.Admitted.{Admitted}
-use Rattle.quantities.specs.declared.Admitted.TheVariants as admitted
 use Rattle.refusal.specs.Guards.{test, guarded}
 use Rattle.quantities.specs.Time.{span, moved, later_of, admit_of}
 use Rattle.remy.specs.Cube as cube
@@ -84,9 +83,9 @@ abbrev pub held_as : Sender → Held
 held_as s = record { sender = s; window = window_now s; clipped = false }
 
 -- send: 1; the answer "by the rule just given, so 0 after a send"
-unfoldable pub send_admitted : Sender → Admitted → Reply
-send_admitted s (admitted.At t) = reply.Taken (held_as (with_send s t))
-send_admitted s (admitted.Refused k) = reply.Refused not_admitted
+unfoldable pub send_admitted : Sender → Result Time Refusal → Reply
+send_admitted s (Ok t) = reply.Taken (held_as (with_send s t))
+send_admitted s (Err k) = reply.Refused not_admitted
 
 abbrev pub send_of : Sender → Float → Reply
 send_of s at = send_admitted s (admit_of at)
@@ -117,10 +116,10 @@ unfoldable pub wake_in : Sender → Moment → Time → Wake
 wake_in s moment.Never now = wake.Never
 wake_in s (moment.At sent) now = wake.At (later_of now (moved sent s.intersend_delay))
 
-unfoldable pub wake_admitted : Sender → Admitted → Wake
+unfoldable pub wake_admitted : Sender → Result Time Refusal → Wake
 unfolding wake_in
-wake_admitted s (admitted.At now) = wake_in s s.last_send now
-wake_admitted s (admitted.Refused k) = wake.Refused not_admitted
+wake_admitted s (Ok now) = wake_in s s.last_send now
+wake_admitted s (Err k) = wake.Refused not_admitted
 
 abbrev pub wake_of : Sender → Float → Wake
 wake_of s now = wake_admitted s (admit_of now)

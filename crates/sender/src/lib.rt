@@ -5,7 +5,7 @@ ghost use Rattle.std.specs.Prelude.{◌≡◌};
 ghost use Rattle.sender.specs.Sender.{new_of, ack_of, send_of, tick_of, event_of, wake_of};
 ghost use Rattle.sender.specs.Burst.{burst_of, windows_after, flags_after};
 
-use quantities::{Admitted, Time, TimeSpan};
+use quantities::{Time, TimeSpan};
 use remy::action::Action;
 use rule_tree::RuleTree;
 
@@ -153,7 +153,7 @@ impl Sender {
     pub fn packet_sent(self, at: f64) -> Reply
         ensures { result ≡ send_of self at }
     {
-        let Admitted::At(t) = quantities::admit(at) else {
+        let Ok(t) = Time::admit(at) else {
             return Reply::Refused(refusal::NOT_ADMITTED);
         };
         let sender = inner::memory::with_send(self, t);
@@ -212,15 +212,14 @@ impl Sender {
     pub fn next_tick(self, now: f64) -> Wake
         ensures { result ≡ wake_of self now }
     {
-        let Admitted::At(t) = quantities::admit(now) else {
+        let Ok(t) = Time::admit(now) else {
             return Wake::Refused(refusal::NOT_ADMITTED);
         };
         let standing = self.last_send;
         let Moment::At(sent) = standing else {
             return Wake::Never;
         };
-        let wait = self.intersend_delay;
-        let due = sent.after(wait);
+        let due = sent + self.intersend_delay;
         Wake::At(t.later(due))
     }
 }

@@ -2,9 +2,9 @@
 use mathlib.Core.Path.{◌≡◌, refl, sym, subst}
 use mathlib.Core.Bool.{Bool, true, false, cond}
 use lib.Ieee.{Float}
+use Rattle.std.specs.Prelude.{Result, Ok, Err}
+use Rattle.refusal.specs.declared.Refusal.{Refusal}
 use Rattle.quantities.specs.declared.Time.{Time}
-use Rattle.quantities.specs.declared.Admitted.{Admitted}
-use Rattle.quantities.specs.declared.Admitted.TheVariants as admitted
 use Rattle.quantities.specs.Time.{admit_of}
 use Rattle.remy.specs.declared.action.Action.{Action}
 use Rattle.rule_tree.specs.declared.RuleTree.{RuleTree}
@@ -29,10 +29,10 @@ abbrev SendKeeps : Sender → Reply → Type 0
 SendKeeps s (Taken d) = with_last_send s d.sender.last_send ≡ d.sender
 SendKeeps s (Refused k) = Unit {0}
 
-send_keeps : (s : Sender) (at : Admitted) → SendKeeps s (send_admitted s at)
+send_keeps : (s : Sender) (at : Result Time Refusal) → SendKeeps s (send_admitted s at)
 unfolding send_admitted
-send_keeps s (admitted.At t) = refl
-send_keeps s (admitted.Refused k) = tt
+send_keeps s (Ok t) = refl
+send_keeps s (Err k) = tt
 
 pub sent_left : (s : Sender) (at : Float) (d : Held) → Taken d ≡ send_of s at → with_last_send s d.sender.last_send ≡ d.sender
 sent_left s at d e = subst (SendKeeps s) (sym e) (send_keeps s (admit_of at))
@@ -74,11 +74,11 @@ module _ (s : Sender) where
   pending_keeps t from at (Repeat left a) draw = refl
   pending_keeps t from at Idle draw = looked_keeps from at (found_in t (point_of (remembered s from at))) draw
 
-  admitted_keeps : (t : RuleTree) (x y : Admitted) (draw : Draw) → AckKeeps s (ack_admitted t s x y draw)
+  admitted_keeps : (t : RuleTree) (x y : Result Time Refusal) (draw : Draw) → AckKeeps s (ack_admitted t s x y draw)
   unfolding ack_admitted
-  admitted_keeps t (admitted.At from) (admitted.At at) draw = pending_keeps t from at s.next_change draw
-  admitted_keeps t (admitted.At from) (admitted.Refused k) draw = tt
-  admitted_keeps t (admitted.Refused k) y draw = tt
+  admitted_keeps t (Ok from) (Ok at) draw = pending_keeps t from at s.next_change draw
+  admitted_keeps t (Ok from) (Err k) draw = tt
+  admitted_keeps t (Err k) y draw = tt
 
   tested : (r : Reply) → AckKeeps s r → (grown : Bool) → AckKeeps s (cond grown r (Refused 10))
   tested r k true = k

@@ -6,8 +6,9 @@ use native.Mathlib.Omega.{arith}
 use lib.IntN.{ℤ, pos, negsuc}
 use lib.ListN.{length}
 use Rattle.refusal.proofs.Guards.{either}
-use Rattle.quantities.specs.declared.Admitted.{Admitted}
-use Rattle.quantities.specs.declared.Admitted.TheVariants as admitted
+use Rattle.std.specs.Prelude.{Result, Ok, Err}
+use Rattle.refusal.specs.declared.Refusal.{Refusal}
+use Rattle.quantities.specs.declared.Time.{Time}
 use Rattle.quantities.specs.Time.{admit_of}
 use Rattle.remy.specs.declared.action.Action.{Action}
 use Rattle.remy.specs.Action.{clamp, window_of, sum_of}
@@ -76,17 +77,17 @@ unfolding ack_pending
 pending_small t s (Repeat left a) draw = settled_small s a (repeat_next left a)
 pending_small t s Idle draw = with_small s (found_in t (point_of s)) draw
 
-admitted_small : (t : RuleTree) (s : Sender) (x y : Admitted) (draw : Draw) → Small (ack_admitted t s x y draw)
+admitted_small : (t : RuleTree) (s : Sender) (x y : Result Time Refusal) (draw : Draw) → Small (ack_admitted t s x y draw)
 unfolding ack_admitted
-admitted_small t s (admitted.At sent) (admitted.At received) draw = pending_small t (remembered s sent received) s.next_change draw
-admitted_small t s (admitted.At sent) (admitted.Refused k) draw = omega arith
-admitted_small t s (admitted.Refused k) received draw = omega arith
+admitted_small t s (Ok sent) (Ok received) draw = pending_small t (remembered s sent received) s.next_change draw
+admitted_small t s (Ok sent) (Err k) draw = omega arith
+admitted_small t s (Err k) received draw = omega arith
 
 -- ---- an event
-send_small : (s : Sender) (x : Admitted) → s.window ≤ 1000000 → Small (send_admitted s x)
+send_small : (s : Sender) (x : Result Time Refusal) → s.window ≤ 1000000 → Small (send_admitted s x)
 unfolding send_admitted window_in
-send_small s (admitted.At t) l = (omega arith, l)
-send_small s (admitted.Refused k) l = omega arith
+send_small s (Ok t) l = (omega arith, l)
+send_small s (Err k) l = omega arith
 
 pub reply_small : (t : RuleTree) (s : Sender) (e : Event) → s.window ≤ 1000000 → Small (replied_to s (on t e))
 unfolding replied_to on ack_of window_in

@@ -1,19 +1,21 @@
 -- `host_memory::listed` tests in the order 28, 29, and a refusal leaves the buffer. Assumes nothing.
-use Rattle.rule_tree.proofs.Ways.{was_true, was_false}
+use Rattle.std.proofs.Common.{sym, ap, ◌∙◌, length, List, ℕ}
+use Rattle.std.proofs.lemmas.List.Edits.{sets}
+use Rattle.wire.specs.Bytes.{shorts_bytes}
 use Rattle.host_memory.proofs.Within as law
 use Rattle.host_memory.proofs.listed.Goals as goal
 
-pub returns-then-n-out : goal.returns-then-n-out
-returns-then-n-out c =
-    let f = c.found_in-found in
-    law.written c.args.tree c.args.r c.args.out.now c.requires (was_true c.ordered.ensures c.if-ordered.true) f.result.number f.ensures.0
-    f.result.leaves f.ensures.1 c.if-n-out.true c.put_nodes.ensures
+pub returns-then-not-ordered : goal.returns-then-not-ordered
+returns-then-not-ordered c =
+    law.disordered c.args.tree c.args.r c.args.out.now c.requires (sym c.ordered.ensures ∙ c.if-not-ordered.true) c.number.ensures
 
-pub returns-then-ordered : goal.returns-then-ordered
-returns-then-ordered c =
-    let f = c.found_in-found in
-    law.too_short c.args.tree c.args.r c.args.out.now c.requires (was_true c.ordered.ensures c.if-ordered.true) f.result.number f.ensures.0 c.if-n-out.false
+pub returns-then-out-n : goal.returns-then-out-n
+returns-then-out-n c =
+    law.too_short c.args.tree c.args.r c.args.out.now c.requires (sym c.ordered.ensures ∙ c.if-not-ordered.false) c.len-n.result
+    (c.len-n.ensures.value ∙ ap length c.found_in-found.ensures) c.if-out-n.true c.number-then-out-n.ensures
 
 pub returns : goal.returns
 returns c =
-    law.disordered c.args.tree c.args.r c.args.out.now c.requires (was_false c.ordered.ensures c.if-ordered.false)
+    law.written c.args.tree c.args.r c.args.out.now c.requires (sym c.ordered.ensures ∙ c.if-not-ordered.false) c.len-n.result
+    (c.len-n.ensures.value ∙ ap length c.found_in-found.ensures) c.if-out-n.false
+    (c.put_nodes.ensures ∙ ap (λ (ls : List ℕ). sets c.args.out.now 0 (shorts_bytes ls)) (c.as_slice.ensures.value ∙ c.found_in-found.ensures))

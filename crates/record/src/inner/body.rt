@@ -30,7 +30,7 @@ fn same_record(t: Trainer, l: Layout, version: u8, bytes: &[u8]) -> bool
     let size = layout::size(l, tree.splits);
     let mut buf = [0u8; 11076];
     write::write(&mut buf, l, version, t);
-    wire::inner::read::same(&buf[..size], bytes)
+    &buf[..size] == bytes
 }
 
 pub fn read_body(bytes: &[u8]) -> Answered

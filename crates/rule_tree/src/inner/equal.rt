@@ -12,14 +12,7 @@ use remy::cube::Cube;
 fn cube_equal(c: Cube, d: Cube) -> bool
     ensures { result ≡ cube_equal c d }
 {
-    let c_min = c.min;
-    let d_min = d.min;
-    if c_min.equals(d_min) {
-        let c_max = c.max;
-        let d_max = d.max;
-        return c_max.equals(d_max);
-    }
-    false
+    c == d
 }
 
 fn action_equal(a: Action, b: Action) -> bool

@@ -7,7 +7,7 @@ ghost use Rattle.sender.specs.Asks.{ask_of, node_of, answered};
 
 use crate::inner::memory;
 use crate::{Draw, Held, Pending, RepeatMode, Reply, Sender};
-use quantities::Admitted;
+use quantities::Time;
 use remy::action::Action;
 use remy::cube::Cube;
 use rule_tree::inner::leaf::{Holder, leaf_of};
@@ -105,10 +105,10 @@ pub fn ask(children: &[u16; 513], root: Cube, s: Sender, sent: f64, received: f6
     requires { Ready children.now root }
     ensures { result ≡ ask_of children.now root s sent received }
 {
-    let Admitted::At(from) = quantities::admit(sent) else {
+    let Ok(from) = Time::admit(sent) else {
         return Asked::Answer(Reply::Refused(refusal::NOT_ADMITTED));
     };
-    let Admitted::At(at) = quantities::admit(received) else {
+    let Ok(at) = Time::admit(received) else {
         return Asked::Answer(Reply::Refused(refusal::NOT_ADMITTED));
     };
     let m = memory::remember(s, from, at);

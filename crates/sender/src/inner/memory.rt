@@ -74,11 +74,11 @@ fn average_next(old: Average, last: Moment, now: Time) -> Average
     let Moment::At(before) = last else {
         return old;
     };
-    let gap = now.since(before);
+    let gap = now - before;
     let Average::Of(a) = old else {
         return Average::Of(gap);
     };
-    Average::Of(a.times(0.875).plus(gap.times(0.125)))
+    Average::Of(0.875 * a + 0.125 * gap)
 }
 
 // The shortest gives way only to a round trip below it.
@@ -88,7 +88,7 @@ fn rtt_next(old: Rtt, current: TimeSpan) -> Rtt
     match old {
         Rtt::Unknown => Rtt::Known(current, current),
         Rtt::Known(shortest, _) => {
-            if current.shorter_than(shortest) {
+            if current < shortest {
                 Rtt::Known(current, current)
             } else {
                 Rtt::Known(shortest, current)
@@ -108,7 +108,7 @@ pub fn remember(s: Sender, sent: Time, received: Time) -> Sender
     let rtt_old = s.rtt;
     let ack_ewma = average_next(ack_old, last_ack, received);
     let send_ewma = average_next(send_old, last_ack_send, sent);
-    let current = received.since(sent);
+    let current = received - sent;
     let rtt = rtt_next(rtt_old, current);
     let next_change = s.next_change;
     let repeat_actions = s.repeat_actions;
@@ -142,7 +142,7 @@ fn ratio(rtt: Rtt) -> f64
 {
     match rtt {
         Rtt::Unknown => 0.0,
-        Rtt::Known(shortest, current) => current.ratio(shortest),
+        Rtt::Known(shortest, current) => current / shortest,
     }
 }
 

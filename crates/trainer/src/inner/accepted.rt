@@ -179,9 +179,7 @@ fn phase_holds(t: Trainer) -> bool
 fn box_holds(t: Trainer) -> bool
     ensures { result ≡ box_holds t }
 {
-    let e = t.tree.ends;
-    let u = t.settings.ends;
-    e.equals(u)
+    t.tree.ends == t.settings.ends
 }
 
 pub fn accepted(t: Trainer) -> bool

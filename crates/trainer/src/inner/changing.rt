@@ -10,9 +10,7 @@ use crate::settings::Settings;
 fn ends_stay(t: Trainer, s: Settings) -> bool
     ensures { result ≡ point_equal t.settings.ends s.ends }
 {
-    let e = t.settings.ends;
-    let u = s.ends;
-    e.equals(u)
+    t.settings.ends == s.ends
 }
 
 // Neither phase 6 nor phase 7.

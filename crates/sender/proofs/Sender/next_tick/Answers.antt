@@ -8,8 +8,8 @@ returns-in_default c = rw (← c.admit.ensures, c.in_default.is)
 
 pub returns-in_default-standing : goal.returns-in_default-standing
 unfolding wake_admitted wake_in
-returns-in_default-standing c = rw (← c.admit.ensures, c.in-At.is, c.in_default-standing.is)
+returns-in_default-standing c = rw (← c.admit.ensures, c.in-Ok.is, c.in_default-standing.is)
 
 pub returns : goal.returns
 unfolding wake_admitted wake_in
-returns c = rw (← c.admit.ensures, c.in-At.is, c.in-At-standing.is, c.later.ensures, c.after-due.ensures)
+returns c = rw (← c.admit.ensures, c.in-Ok.is, c.in-At.is, c.later.ensures, c.add-due.ensures)

@@ -9,4 +9,4 @@ returns-in_default c = rw (← c.admit.ensures, c.in_default.is)
 
 pub returns : goal.returns
 unfolding send_admitted window_in
-returns c = rw (← c.admit.ensures, c.in-At.is, c.with_send-sender.ensures)
+returns c = rw (← c.admit.ensures, c.in-Ok.is, c.with_send-sender.ensures)

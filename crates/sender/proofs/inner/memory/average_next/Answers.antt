@@ -9,8 +9,8 @@ returns-in_default c = rw c.in_default.is
 
 pub returns-in_default-old : goal.returns-in_default-old
 unfolding average_next averaged
-returns-in_default-old c = rw (c.in-At.is, c.in_default-old.is, c.since-gap.ensures)
+returns-in_default-old c = rw (c.in-At.is, c.in_default-old.is, c.sub-gap.ensures)
 
 pub returns : goal.returns
 unfolding average_next averaged of_bits
-returns c = rw (c.in-At.is, c.in-Of.is, c.plus.ensures, c.times-2.ensures, c.times.ensures, c.since-gap.ensures)
+returns c = rw (c.in-At.is, c.in-Of.is, c.add.ensures, c.mul-2.ensures, c.mul.ensures, c.sub-gap.ensures)

@@ -9,4 +9,4 @@ returns-in-Unknown c = rw c.in-Unknown.is
 
 pub returns-in-Known : goal.returns-in-Known
 unfolding ratio_now
-returns-in-Known c = rw (c.in-Known.is, c.ratio.ensures)
+returns-in-Known c = rw (c.in-Known.is, c.div.ensures)
