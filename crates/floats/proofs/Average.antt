@@ -1,10 +1,10 @@
 -- The average 0.875 * a + 0.125 * g of two values that are at most p is at most p, each operation rounded once.
--- Assumes nothing.
+-- The library has no law of averages. Assumes nothing.
 use Rattle.std.proofs.Common.{◌≡◌, ℕ, zero, suc, ◌+◌, ◌-◌, ◌*◌, ◌/◌, ◌%◌, ◌^◌, ◌<◌, ◌≤◌, true, false, not, T, eqb, pos, negsuc, sym, refl, ap, ◌∙◌, subst, inl, inr, le_trans, le_of_eq, le_refl, lt_of_lt_of_le, lt_of_le_of_lt, mul-le-mul_right, mul_assoc, lt_of_mul-lt-mul_right, eq-or-lt_of_le, mul-lt-mul_of_pos_right, mul-pos, lt_of_not-le, div-add-mod', not-le_of_lt, le_of_mul-le-mul_right, mul-div_cancel, arith, lit<, eqb→eq, leb→le, pow_pos, pow_mono, pow-add, shl_lt}
 use Prim.Native.Nat.{compare, Ordering}
 use lib.Dec.{is_le, compare_is_eq, nleb→lt, eqb_refl}
 use lib.Arith.{lt_of_le-ne}
-use lib.Ieee.Fits.{two, two-le_pos, down_pos, add-fits}
+use lib.Ieee.Fits.{two, two-le_pos, down_pos}
 use lib.Ieee.{Float, nan, inf, fin, Format, binary64, prec, emax, low, size, up, down, nearest, round, add, mul, le, fits}
 use lib.Ieee.Digits.{size-lt, size-le, size_reaches, back}
 use lib.Ieee.Exact.{HasValue, round_exact}
@@ -12,7 +12,7 @@ use lib.Ieee.Nearest.{closest, closest_same}
 use lib.Ieee.Order.{le_of_values, round_mono}
 use lib.Ieee.Scale.{grid, overflow, finite, round_same, round_val, round_under}
 use lib.Ieee.Positive.{num, den, den_pos}
-use Rattle.floats.proofs.Order.{le_le_trans, le_self, leq→Le}
+use Rattle.floats.proofs.Order.{le_le_trans, le_self, no_more}
 use Rattle.floats.proofs.Nonneg.{nonneg, nonneg_nn, own, cross, value_nonneg, le→cross, below_finite, add_is, mul_is}
 use Rattle.floats.proofs.Nonneg.{mul_plus, add_mono, mul_mono}
 use Rattle.floats.specs.Average.{seven_eighths, one_eighth, average}
@@ -398,7 +398,7 @@ least_nonneg (inf s) f h = f
 least_nonneg (fin false n d) f h = tt
 least_nonneg (fin true n d) f h =
     go (down d) (n * up d * down (negsuc 1018)) (down_pos d)
-    (leq→Le false (1 * 1 * down d) true (n * up d * down (negsuc 1018)) h)
+    (no_more (1 * 1 * down d) (n * up d * down (negsuc 1018)) h)
   where
     go : (a b : ℕ) → 0 < a → 1 * 1 * a + b ≤ 0 → ⊥
     go a b p h = omega arith
@@ -447,6 +447,3 @@ module _ (p a g : Float) (fp : T (finite p)) (tp : T (fits binary64 p)) (h : T (
   pub average_some : Some (average a g)
   average_some =
       between_some (average a g) p (add_min binary64 (mul binary64 7/8 a) (mul binary64 1/8 g) part_a part_g) average_le fp
-
-pub average_fits : (a g : Float) → T (fits binary64 (average a g))
-average_fits a g = add-fits binary64 (mul binary64 7/8 a) (mul binary64 1/8 g)

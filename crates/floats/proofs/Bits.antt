@@ -10,9 +10,6 @@ bits_back x h = of_bits-to_bits binary64 x h
 pub bits_below : (x : Float) → T (fits binary64 x) → to_bits binary64 x < 2 ^ 64
 bits_below x h = to_bits-lt binary64 x h
 
-pub bits_same : (x y : Float) → T (fits binary64 x) → T (fits binary64 y) → to_bits binary64 x ≡ to_bits binary64 y → x ≡ y
-bits_same x y h k e = sym (bits_back x h) ∙ ap (of_bits binary64) e ∙ bits_back y k
-
 pub read_fits : (b : ℕ) → T (fits binary64 (of_bits binary64 b))
 read_fits b = of_bits-fits binary64 b
 

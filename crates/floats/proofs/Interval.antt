@@ -1,5 +1,5 @@
 -- Halving an interval [lo, hi) of binary64 whose ends are 0 or more: its middle lies between the ends and is such an end, and
--- each x of [lo, hi) is in just one of [lo, middle) and [middle, hi). Assumes nothing.
+-- each x of [lo, hi) is in just one of [lo, middle) and [middle, hi). The order is the library's; it has no intervals. Assumes nothing.
 use Rattle.std.proofs.Common.{◌≡◌, ℕ, ◌+◌, ◌*◌, ◌^◌, ◌<◌, ◌≤◌, Bool, true, false, not, ◌&&◌, ◌||◌, T, sym, refl, ◌∙◌, subst, inl, inr, mul-le-mul_right, mul-pos, lt_of_not-le, arith, lit<}
 use lib.Dec.{not_T}
 use lib.Ieee.{Float, nan, inf, fin, binary64, round, add, le, lt, is_nan}

@@ -1,4 +1,5 @@
--- The middle of two finite values whose sign is + lies between them, where the double of the larger is in range. Assumes nothing.
+-- The middle of two finite values whose sign is + lies between them, where the double of the larger is in range.
+-- The library has no law of middles. Assumes nothing.
 use Rattle.std.proofs.Common.{◌≡◌, ℕ, zero, suc, ◌+◌, ◌-◌, ◌*◌, ◌%◌, ◌^◌, ◌<◌, ◌≤◌, false, ◌&&◌, T, eqb, ltb, leb, ℤ, pos, negsuc, sym, ap, ◌∙◌, subst, le_of_eq, lt_of_lt_of_le, le_of_suc-le-suc, lt_irrefl, lt_of_mul-lt-mul_right, mul-lt-mul_of_pos_right, mul-pos, one-mul, lt_of_not-le, zero-mul, mul-one, arith, ltb→lt, leb→le, pow_pos, pow-add}
 use native.Mathlib.Nat.{eq_of_mul-eq-mul_right}
 use lib.Pow.{pow-lt}

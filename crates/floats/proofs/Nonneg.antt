@@ -1,5 +1,5 @@
 -- The finite values whose sign is +, zero included, each as a fraction `num` / `den`: sum, product and half are one rounding,
--- and grow with each operand. Assumes nothing.
+-- and grow with each operand. The library has this of values above zero alone. Assumes nothing.
 use Rattle.std.proofs.Common.{◌≡◌, ℕ, suc, ◌+◌, ◌*◌, ◌^◌, ◌<◌, ◌≤◌, Bool, true, false, cond, not, ◌&&◌, ◌||◌, T, eqb, ltb, pos, sym, refl, subst, le_trans, le_of_eq, le_of_lt, mul-le-mul_right, mul-le-mul, mul-pos, arith, eqb→eq, ltb→lt}
 use native.Mathlib.Nat.{mul-mul-mul_comm}
 use lib.Ieee.{Float, nan, inf, fin, Format, prec, emax, low, up, down, round, units, odd, add, mul, div, le, is_nan}
@@ -7,6 +7,8 @@ use lib.Ieee.Fits.{round_is}
 use lib.Ieee.Exact.{HasValue, odd_sign}
 use lib.Ieee.Order.{le_of_values, round_mono}
 use lib.Ieee.Positive.{num, den, den_pos}
+-- of any fraction that x equals
+pub use lib.Ieee.Positive.{value→cross as cross}
 
 -- finite, and its sign is +
 abbrev pub nonneg : Float → Bool
@@ -25,12 +27,6 @@ own nan p = absurd p
 own (inf s) p = absurd p
 own (fin true m e) p = absurd p
 own (fin false m e) p = (refl, refl)
-
--- any fraction that x equals
-pub cross : (x : Float) (a c : ℕ) → HasValue x false a c → num x * c ≡ a * den x
-cross nan a c h = absurd h
-cross (inf s) a c h = absurd h
-cross (fin s m e) a c h = h.1
 
 pub value_nonneg : (x : Float) (a c : ℕ) → HasValue x false a c → T (nonneg x)
 value_nonneg nan a c h = absurd h

@@ -1,4 +1,5 @@
--- Two values that fit, are equal and above 0 are one: an odd number times a power of 2 is written in one way. Assumes nothing.
+-- Two values that fit, are equal and above 0 are one: an odd number times a power of 2 is written in one way.
+-- The library has it of whole values alone. Assumes nothing.
 use Rattle.std.proofs.Common.{◌≡◌, ℕ, zero, suc, ◌*◌, ◌%◌, ◌^◌, ◌<◌, Bool, true, false, ◌&&◌, T, eqb, ltb, leb, ℤ, pos, negsuc, sym, refl, ap, ◌∙◌, zero-lt-suc, mul_assoc, pow-suc, zero-mul, mul-one, mul_left_comm, arith, eqb→eq, ltb→lt}
 use native.Mathlib.Nat.{pow-succ', eq_of_mul-eq-mul_right}
 use lib.Ieee.{Float, nan, inf, fin, Format, prec, emax, low, up, down, eq, lt, fits}

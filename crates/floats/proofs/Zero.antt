@@ -1,14 +1,15 @@
 -- The finite values that are 0 or more, -0 among them: what `0.0 <= x` lets through. -0 counts as 0 in sums, products and halves,
--- so that the laws of values whose sign is + hold with it. Assumes nothing.
-use Rattle.std.proofs.Common.{◌≡◌, ℕ, zero, suc, ◌+◌, ◌-◌, ◌*◌, ◌^◌, ◌<◌, ◌≤◌, Bool, true, false, cond, not, T, ltb, ℤ, pos, sym, refl, ap, ◌∙◌, subst, mul-pos, mul-zero, zero-mul, mul-one, arith, nltb→le}
+-- so that the laws of values whose sign is + hold with it. The library has no laws of -0 in sums and halves. Assumes nothing.
+use Rattle.std.proofs.Common.{◌≡◌, ℕ, zero, suc, ◌+◌, ◌-◌, ◌*◌, ◌^◌, ◌<◌, ◌≤◌, Bool, true, false, cond, not, ◌||◌, T, eqb, ltb, ℤ, pos, sym, refl, ap, ◌∙◌, subst, mul-pos, mul-zero, zero-mul, mul-one, arith, nltb→le}
 use native.Mathlib.Nat.{eq_of_mul-eq-mul_right}
+use mathlib.Core.Bool.{beq}
 use lib.Dec.{leb-suc-zero}
-use lib.Ieee.{Float, nan, inf, fin, Format, emax, up, down, round, sum, add, mul, div, le, fits, is_nan}
-use lib.Ieee.Fits.{down_pos, div-fits}
+use lib.Ieee.{Float, nan, inf, fin, Format, emax, up, down, below, level, round, sum, add, mul, div, le, fits, is_nan}
+use lib.Ieee.Fits.{down_pos, div-fits, and_i, eq→eqb}
 use lib.Ieee.Exact.{HasValue}
 use lib.Ieee.Scale.{finite}
 use lib.Ieee.Positive.{num, den}
-use Rattle.floats.proofs.Order.{Le, leq→Le, Le→leq, le_le_trans, le_self}
+use Rattle.floats.proofs.Order.{or_r, no_more, le_le_trans, le_self}
 use Rattle.floats.proofs.Nonneg.{nonneg, nonneg_nn, plus, cross→le, add_plus, mul_plus, half_plus, add_mono}
 use Rattle.floats.proofs.Nonneg.{half_mono}
 use Rattle.floats.proofs.Middle.{2f, mid, mid_between}
@@ -61,11 +62,9 @@ plus_nn (inf s) p = tt
 plus_nn (fin s m e) p = tt
 
 -- ---- zeros
-Le-zero : (s : Bool) (a : ℕ) (t : Bool) (b : ℕ) → a ≡ 0 → b ≡ 0 → Le s a t b
-Le-zero false a false b p q = omega arith
-Le-zero false a true b p q = omega arith
-Le-zero true a false b p q = omega arith
-Le-zero true a true b p q = omega arith
+zero_level : (s : Bool) (a : ℕ) (t : Bool) (b : ℕ) → a ≡ 0 → b ≡ 0 → T (below s a t b || level s a t b)
+zero_level s a t b p q =
+    or_r (below s a t b) (level s a t b) (and_i (eqb a b) (beq s t || eqb a 0) (eq→eqb (p ∙ sym q)) (or_r (beq s t) (eqb a 0) (eq→eqb p)))
 
 zeros_le : (x y : Float) (s t : Bool) (c : ℕ) → 0 < c → HasValue x s 0 c → HasValue y t 0 c → T (le x y)
 unfolding le
@@ -74,9 +73,7 @@ zeros_le (inf u) y s t c C h k = absurd h
 zeros_le (fin u m e) nan s t c C h k = absurd k
 zeros_le (fin u m e) (inf v) s t c C h k = absurd k
 zeros_le (fin u m e) (fin v n d) s t c C h k =
-    Le→leq u (m * up e * down d) v (n * up d * down e)
-    (Le-zero u (m * up e * down d) v (n * up d * down e) (none (m * up e) (down e) (down d) h.1)
-    (none (n * up d) (down d) (down e) k.1))
+    zero_level u (m * up e * down d) v (n * up d * down e) (none (m * up e) (down e) (down d) h.1) (none (n * up d) (down d) (down e) k.1)
   where
     none : (a d e : ℕ) → a * c ≡ 0 * d → a * e ≡ 0
     none a d e z = ap (λ (x : ℕ). x * e) (eq_of_mul-eq-mul_right c C a 0 (z ∙ zero-mul d ∙ sym (zero-mul c))) ∙ zero-mul e
@@ -90,7 +87,7 @@ zero≈ f a c C z = subst (λ (x : ℕ). round f true x c ≈ round f false x c)
 -- a value with the sign - that is 0 or more is a zero
 pub minus_zero : (m : ℕ) (e : ℤ) → T (le 0f (fin true m e)) → m * up e ≡ 0
 unfolding le
-minus_zero m e h = go (0 * down e) (m * up e) (leq→Le false (0 * down e) true (m * up e * 1) h)
+minus_zero m e h = go (0 * down e) (m * up e) (no_more (0 * down e) (m * up e * 1) h)
   where
     go : (a b : ℕ) → a + b * 1 ≤ 0 → b ≡ 0
     go a b h = omega arith

@@ -75,7 +75,7 @@ impl Add<TimeSpan> for Time {
 }
 
 impl Time {
-    // A number that is handed in as a moment.
+    // A number that is handed in as a moment. No `TryFrom`: `restored` makes a moment of a number too, and the two differ by their names.
     pub fn admit(value: f64) -> Result<Time, Refusal>
         ensures { result ≡ admit_of value }
     {

@@ -9,9 +9,9 @@ use lib.ListN.{length, set, replicate, get_or-replicate}
 use lib.Seq.{get_or-set_same, get_or-set_other}
 use Rattle.remy.specs.declared.cube.Cube.{Cube}
 use Rattle.remy.specs.Cube.{child_cube}
-use Rattle.rule_tree.specs.Cubes.{cube_at}
+use Rattle.rule_tree.specs.Cubes.{Before, cube_at}
 use Rattle.rule_tree.proofs.CubeSteps.{parent_of, root_cube, parent_before, child_step}
-use Rattle.ranges.specs.Cubes.{no_cube, cube_in, CubesAre, Before}
+use Rattle.ranges.specs.Cubes.{no_cube, cube_in, CubesAre}
 
 module _ (ps : List ℕ) (root : Cube) where
   abbrev at : ℕ → Cube

@@ -11,7 +11,7 @@ use Rattle.remy.specs.declared.point.Point.{Point}
 use Rattle.remy.specs.Cube.{root_of, contains_of, Whole}
 use Rattle.rule_tree.specs.declared.Node.{Node}
 use Rattle.rule_tree.specs.declared.RuleTree.{RuleTree}
-use Rattle.rule_tree.specs.declared.Looked.TheVariants.{Found}
+use Rattle.std.specs.Prelude.{Some, Ok}
 use Rattle.rule_tree.specs.Nodes.{node_at_of, children_of, node_count, is_leaf_of, action_in}
 use Rattle.rule_tree.specs.Grown.{grown_of}
 use Rattle.rule_tree.specs.Cubes.{cube_of}
@@ -62,7 +62,7 @@ module _ (t : RuleTree) (g : grown_of t ≡ true) (n : length t.nodes ≡ 513) (
           within = m.within;
           box = b;
           leaf = e;
-          found = lookup_found t g n f p b ∙ ap (λ (j : ℕ). Found (action_in (node_at_of t.nodes j))) e;
+          found = lookup_found t g n f p b ∙ ap (λ (j : ℕ). Ok (Some (action_in (node_at_of t.nodes j)))) e;
         }
 
     pub reached_met : (r : Ranges) → Reached t r i → Met (cube_of t i) r

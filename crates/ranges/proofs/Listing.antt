@@ -1,6 +1,6 @@
 -- The list of the leaves that pass the test: by rising node, each once, the reached ones and no others. Assumes nothing.
-use mathlib.Core.Path.{◌≡◌, refl, sym}
-use mathlib.Core.Bool.{Bool, true, false}
+use mathlib.Core.Path.{◌≡◌, refl, sym, ◌∙◌}
+use mathlib.Core.Bool.{Bool, true, false, true≢false}
 use mathlib.Core.List.{[], ◌∷◌}
 use mathlib.Core.Logic.{◌↔◌}
 use Prim.Native.Nat.{ℕ, ◌+◌, ◌<◌}
@@ -21,7 +21,7 @@ use Rattle.rule_tree_laws.proofs.Partition.{grown_one_leaf}
 use Rattle.ranges.specs.declared.Ranges.{Ranges}
 use Rattle.ranges.specs.Ranges.{lowest_of, ordered_of, reachable, reached_leaf, leaves_within}
 use Rattle.ranges.specs.Reached.{Fits, Reached, Listed, Rising, point_ranges}
-use Rattle.ranges.proofs.Passing.{no, rising, listed_passes, passes_listed, none_pass, one_passes}
+use Rattle.ranges.proofs.Passing.{rising, listed_passes, passes_listed, none_pass, one_passes}
 use Rattle.ranges.proofs.LeafWays.{reached_met, reached_exactly, point_reached}
 
 -- a leaf in use
@@ -58,7 +58,7 @@ module _ (t : RuleTree) (g : grown_of t ≡ true) (n : length t.nodes ≡ 513) (
   empty_unlisted q o i e m =
       let w = (within_exactly q o i).0 m in
       let k = reached_met t g n f i w.0 r w.1 in
-      no (contains_of (cube_of t i) k.point) k.inside (e k.point)
+      true≢false (sym k.inside ∙ e k.point)
 
 -- "Where both ends are equal on all three axes the list is the leaf that lookup finds, or empty"
 module _ (t : RuleTree) (g : grown_of t ≡ true) (n : length t.nodes ≡ 513) (f : PointFits t.ends) (p : Point) where
@@ -81,5 +81,5 @@ module _ (t : RuleTree) (g : grown_of t ≡ true) (n : length t.nodes ≡ 513) (
   point_outside e = none_pass (reached_leaf t only) (node_count t.splits) 0 (λ k a b. go k b (reached_leaf t only k) refl)
     where
       go : (k : ℕ) → k < 0 + node_count t.splits → (c : Bool) → reached_leaf t only k ≡ c → c ≡ false
-      go k b true w = absurd (no (contains_of (root_of t.ends) p) (finds k b w).0 e)
+      go k b true w = absurd (true≢false (sym (finds k b w).0 ∙ e))
       go k b false w = refl

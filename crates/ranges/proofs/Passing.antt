@@ -1,6 +1,7 @@
--- The numbers that pass a test: those and no others, rising; one more number at a time; written from the front of a list. Assumes nothing.
-use mathlib.Core.Path.{◌≡◌, refl, ap, subst, ◌∙◌}
-use mathlib.Core.Bool.{Bool, true, false, cond}
+-- The numbers that pass a test: those and no others, rising; one more number at a time. The library's `filter` has no laws of rising numbers.
+-- Assumes nothing.
+use mathlib.Core.Path.{◌≡◌, refl, sym, ap, subst, ◌∙◌}
+use mathlib.Core.Bool.{Bool, true, false, cond, true≢false}
 use mathlib.Core.List.{List, [], ◌∷◌, ◌++◌, append-nil}
 use mathlib.Core.Logic.{◌⊎◌, inl, inr, ⊎_elim}
 use Prim.Native.Nat.{ℕ, zero, suc, ◌+◌, ◌<◌, ◌≤◌}
@@ -13,9 +14,6 @@ use Rattle.ranges.specs.Reached.{Listed, Rising}
 rising_from : (a b : ℕ) (xs : List ℕ) → a ≤ b → Rising b xs → Rising a xs
 rising_from a b [] h k = tt
 rising_from a b (x ∷ xs) h k = (omega (arith, k.0), k.1)
-
-pub no : (b : Bool) → b ≡ true → b ≡ false → ⊥
-no b p q = cc
 
 module _ (test : ℕ → Bool) where
   pub rising : (n i : ℕ) → Rising i (passing test i n)
@@ -49,7 +47,7 @@ module _ (test : ℕ → Bool) where
       go : (c : Bool) → test i ≡ c → (rest : List ℕ) → (i < k → Listed k rest) → (i ≡ k) ⊎ (i < k) → Listed k (cond c (i ∷ rest) rest)
       go true e rest later (inl z) = inl z
       go true e rest later (inr l) = inr (later l)
-      go false e rest later (inl z) = absurd (no (test k) t (subst (λ (j : ℕ). test j ≡ false) z e))
+      go false e rest later (inl z) = absurd (true≢false (sym t ∙ subst (λ (j : ℕ). test j ≡ false) z e))
       go false e rest later (inr l) = later l
 
   pub none_pass : (n i : ℕ) → ((k : ℕ) → i ≤ k → k < i + n → test k ≡ false) → passing test i n ≡ []
@@ -76,7 +74,7 @@ module _ (test : ℕ → Bool) where
           ap (λ (rest : List ℕ). i ∷ rest) (none_pass n (suc i) (λ k p q. fails k (λ y. omega (arith, y)) (omega arith) (omega arith)))
           ∙ ap (λ (x : ℕ). x ∷ []) z
       go true e later (inr l) = absurd (let z = h i (omega arith) (omega arith) e in omega arith)
-      go false e later (inl z) = absurd (no (test j) t (subst (λ (k : ℕ). test k ≡ false) z e))
+      go false e later (inl z) = absurd (true≢false (sym t ∙ subst (λ (k : ℕ). test k ≡ false) z e))
       go false e later (inr l) = later l
 
   -- one more number

@@ -1,9 +1,8 @@
 -- An array of cubes, one a node.
-use Rattle.std.specs.Prelude.{◌≡◌, List, ℕ, ◌<◌, ◌≤◌, ◌*◌, get_or}
+use Rattle.std.specs.Prelude.{◌≡◌, List, ℕ, ◌<◌, get_or}
 use Rattle.std.specs.Float.{nan}
 use Rattle.remy.specs.declared.cube.Cube.{Cube}
 use Rattle.remy.specs.Cube.{point_of}
-use Rattle.rule_tree.specs.Nodes.{most_splits}
 
 -- what reading past the end of an array of cubes gives
 abbrev pub no_cube : Cube
@@ -15,7 +14,3 @@ cube_in cubes i = get_or cubes i no_cube
 -- the first n of an array are the cubes f 0, f 1, ..
 abbrev pub CubesAre : List Cube → ℕ → (ℕ → Cube) → Type 0
 CubesAre cubes n f = (i : ℕ) → i < n → cube_in cubes i ≡ f i
-
--- each split's node comes before the eight nodes that it adds
-abbrev pub Before : List ℕ → Type 0
-Before ps = (k : ℕ) → k < most_splits → get_or ps k 0 ≤ 8 * k

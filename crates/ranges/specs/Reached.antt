@@ -1,12 +1,11 @@
 -- 02, wish 12: "all leaves that some point within these ranges, both ends counted, could reach".
-use Rattle.std.specs.Prelude.{◌≡◌, Bool, true, false, ◌&&◌, List, [], ◌∷◌, ◌⊎◌, ℕ, suc, ◌≤◌, T, Float}
+use Rattle.std.specs.Prelude.{◌≡◌, Bool, true, false, ◌&&◌, List, [], ◌∷◌, ◌⊎◌, ℕ, suc, ◌≤◌, T, Float, Some, Ok}
 use Rattle.std.specs.Float.{binary64}
 use Rattle.std.specs.Float.Ieee.{le, fits}
 use Rattle.remy.specs.declared.point.Point.{Point}
 use Rattle.remy.specs.declared.cube.Cube.{Cube}
 use Rattle.remy.specs.Cube.{ack, send, ratio, contains_of, root_of}
 use Rattle.rule_tree.specs.declared.RuleTree.{RuleTree}
-use Rattle.rule_tree.specs.declared.Looked.TheVariants.{Found}
 use Rattle.rule_tree.specs.Nodes.{node_at_of, action_in}
 use Rattle.rule_tree.specs.Walk.{leaf_of}
 use Rattle.rule_tree.specs.Calls.{lookup_of}
@@ -49,7 +48,7 @@ pub record Reached (t : RuleTree) (r : Ranges) (i : ℕ) : Type 0 where
   pub within : in_ranges r point ≡ true
   pub box : contains_of (root_of t.ends) point ≡ true
   pub leaf : leaf_of t point ≡ i
-  pub found : lookup_of t point ≡ Found (action_in (node_at_of t.nodes i))
+  pub found : lookup_of t point ≡ Ok (Some (action_in (node_at_of t.nodes i)))
 
 -- "each once, none missing"
 abbrev pub Listed : ℕ → List ℕ → Type 0

@@ -1,18 +1,18 @@
 // The cubes of a tree's nodes, each computed once, and the leaves whose cubes the ranges meet. What these functions require, the public call has tested.
-ghost use Rattle.std.specs.Prelude.{◌≡◌, true, ◌&&◌, ◌==◌, ◌≤◌};
+ghost use Rattle.std.specs.Prelude.{◌≡◌, ◌&&◌, ◌==◌, ◌≤◌};
 ghost use Rattle.rule_tree.specs.Nodes.{slots, node_count};
-ghost use Rattle.rule_tree.specs.Grown.{grown_of};
-ghost use Rattle.rule_tree.specs.Cubes.{cube_at, cube_of};
+ghost use Rattle.rule_tree.specs.Cubes.{Before, cube_at, cube_of};
 ghost use Rattle.ranges.specs.Ranges.{reachable, leaves_within};
-ghost use Rattle.ranges.specs.Cubes.{CubesAre, Before};
+ghost use Rattle.ranges.specs.Cubes.{CubesAre};
 
 use crate::Ranges;
 use arrayvec::ArrayVec;
 use remy::cube::Cube;
-use rule_tree::inner::{cubes, links};
-use rule_tree::{NODES, Node, RuleTree, SPLITS};
+use rule_tree::inner::cubes;
+use rule_tree::inner::grown::Grown;
+use rule_tree::{NODES, Node, SPLITS};
 
-// The cubes of the first n nodes, each from its parent's, which comes before it.
+// The cubes of the first n nodes, each from its parent's, which comes before it. No `ArrayVec`: it fills its room with a default, and a cube has none.
 fn cubes_from(parents: &[u16; SPLITS], root: Cube, n: u16) -> [Cube; NODES]
     requires { (n ≤ slots) × Before parents.now }
     ensures { CubesAre result n (λ i. cube_at i parents.now root i) }
@@ -26,15 +26,13 @@ fn cubes_from(parents: &[u16; SPLITS], root: Cube, n: u16) -> [Cube; NODES]
 }
 
 // The cubes of the nodes of a grown tree.
-#[tactic(auto, using(rule_tree::proofs::Links::grown_splits, rule_tree::proofs::Links::grown_low))]
-fn cubes_of(t: RuleTree) -> [Cube; NODES]
-    requires { grown_of t ≡ true }
-    ensures { CubesAre result (node_count t.splits) (cube_of t) }
+#[tactic(auto, using(rule_tree::proofs::Links::grown_low))]
+fn cubes_of(t: Grown<'_>) -> [Cube; NODES]
+    ensures { CubesAre result (node_count t.entry.tree.now.splits) (cube_of t.entry.tree.now) }
 {
-    let children = links::children_of(t);
-    let parents = cubes::split_nodes(&children);
-    let root = Cube::root(t.ends);
-    cubes_from(&parents, root, 1 + 8 * t.splits)
+    let parents = cubes::split_nodes(t.tree);
+    let root = Cube::root(t.tree.ends);
+    cubes_from(&parents, root, 1 + 8 * t.tree.splits)
 }
 
 // A leaf whose cube the ranges meet.
@@ -45,15 +43,14 @@ fn reached(x: Node, c: Cube, r: Ranges) -> bool
 }
 
 // The leaves of a grown tree that some point within the ranges reaches.
-#[tactic(auto, using(rule_tree::proofs::Links::grown_splits, crate::proofs::Passing::one_more))]
-pub fn found_in(t: RuleTree, r: Ranges) -> ArrayVec<u16, NODES>
-    requires { grown_of t ≡ true }
-    ensures { result.items ≡ leaves_within t r }
+#[tactic(auto, using(crate::proofs::Passing::one_more))]
+pub fn found_in(t: Grown<'_>, r: Ranges) -> ArrayVec<u16, NODES>
+    ensures { result.items ≡ leaves_within t.entry.tree.now r }
 {
     let all = cubes_of(t);
     let mut leaves = ArrayVec::new();
-    for i in 0..1 + 8 * t.splits {
-        if reached(t.nodes[usize::from(i)], all[usize::from(i)], r) {
+    for i in 0..1 + 8 * t.tree.splits {
+        if reached(t.tree.nodes[usize::from(i)], all[usize::from(i)], r) {
             leaves.push(i);
         }
     }

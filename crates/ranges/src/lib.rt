@@ -8,6 +8,7 @@ ghost use Rattle.ranges.specs.Ranges.{meets, ordered_of, reachable, leaves_of, l
 use refusal::Refusal;
 use remy::cube::Cube;
 use rule_tree::RuleTree;
+use rule_tree::inner::grown::Grown;
 
 pub mod inner;
 
@@ -65,9 +66,7 @@ pub fn leaves_within(tree: RuleTree, r: Ranges, list: &mut [u16]) -> Result<u16,
     ensures answer { result ≡ leaves_of tree r list.old }
     ensures list { list.new ≡ list_after tree r list.old }
 {
-    if !tree.grown() {
-        return Err(Refusal::NotGrown);
-    }
+    let tree = Grown::of(&tree)?;
     if !r.ordered() {
         return Err(Refusal::BadRanges);
     }

@@ -1,49 +1,22 @@
 -- Upper ends from 1 to 1,000,000 make a box that can be halved again and again; what equals such ends is such, and the usual ends are. Assumes nothing.
-use mathlib.Core.Path.{◌≡◌, refl, subst}
+use mathlib.Core.Path.{◌≡◌, refl}
 use mathlib.Core.Bool.{Bool, true, false, ◌&&◌, ◌||◌, beq}
-use Prim.Native.Nat.{ℕ, ◌*◌}
-use borrow.Author.Tests.{eqb-true, eq-eqb}
+use Prim.Native.Nat.{◌*◌}
+use borrow.Author.Tests.{eq-eqb}
 use lib.Dec.{T, eqb}
-use lib.Ieee.{Float, nan, inf, fin, up, down, binary64, add, eq, le, lt, fits, level}
+use lib.Ieee.{Float, nan, inf, fin, up, down, binary64, add, eq, le, lt, fits}
 use lib.Ieee.Bits.{is_true}
 use lib.Ieee.Fits.{and_l, and_r, and_i}
 use denote.Floats.{passes}
+use Rattle.std.proofs.lemmas.Float.{eq_flip, le_of_eq}
 use Rattle.floats.specs.Interval.{End}
-use Rattle.floats.proofs.Order.{or_l, or_r, le_le_trans, lt_le_trans}
+use Rattle.floats.proofs.Order.{or_l, le_le_trans, lt_le_trans}
 use Rattle.floats.proofs.Same.{equal_same}
 use Rattle.floats.proofs.Zero.{Some, between_some, add_mono_some, add_min}
 use Rattle.remy.specs.declared.point.Point.{Point}
 use Rattle.remy.specs.Cube.{ack, send, ratio, least_end, most_end, end_admitted, ends_admitted, point_equal, usual_ends, root_of, Whole}
 use Rattle.remy.specs.Cube as cubes
 use Rattle.remy.proofs.Partition.{whole_root}
-
--- ---- equal floats
-beq_sym : (s t : Bool) → beq s t ≡ beq t s
-beq_sym true true = refl
-beq_sym true false = refl
-beq_sym false true = refl
-beq_sym false false = refl
-
-level_sym : (s t : Bool) (a b : ℕ) → T (level s a t b) → T (level t b s a)
-level_sym s t a b h =
-    let p : a ≡ b = eqb-true a b (is_true (eqb a b) (and_l (eqb a b) (beq s t || eqb a 0) h)) in
-    subst (λ (z : ℕ). T (level t z s a)) p
-    (and_i (eqb a a) (beq t s || eqb a 0) (passes (eqb a a) (eq-eqb a a refl))
-    (subst (λ (x : Bool). T (x || eqb a 0)) (beq_sym s t) (and_r (eqb a b) (beq s t || eqb a 0) h)))
-
-eq_sym : (x y : Float) → T (eq x y) → T (eq y x)
-unfolding eq
-eq_sym nan y h = absurd h
-eq_sym (inf s) nan h = absurd h
-eq_sym (inf s) (inf t) h = subst T (beq_sym s t) h
-eq_sym (inf s) (fin t n d) h = absurd h
-eq_sym (fin s m e) nan h = absurd h
-eq_sym (fin s m e) (inf t) h = absurd h
-eq_sym (fin s m e) (fin t n d) h = level_sym s t (m * up e * down d) (n * up d * down e) h
-
-eq-le : (x y : Float) → T (eq x y) → T (le x y)
-unfolding le
-eq-le x y h = or_r (lt x y) (eq x y) h
 
 -- ---- one end
 most_some : Some most_end
@@ -78,8 +51,8 @@ module _ (x : Float) (h : T (end_admitted x)) where
 
   equal_admitted : (z : Float) → T (eq z x) → T (end_admitted z)
   equal_admitted z e =
-      and_i (le least_end z) (le z most_end) (le_le_trans least_end x z from_one (eq-le x z (eq_sym z x e)))
-      (le_le_trans z x most_end (eq-le z x e) to-most)
+      and_i (le least_end z) (le z most_end) (le_le_trans least_end x z from_one (le_of_eq x z (eq_flip z x e)))
+      (le_le_trans z x most_end (le_of_eq z x e) to-most)
 
 above_zero_strictly : (y : Float) → T (end_admitted y) → T (lt cubes.zero y)
 unfolding lt

@@ -5,6 +5,7 @@ use Prim.Native.Nat.{ℕ}
 use lib.IntN.{pos, negsuc}
 use lib.Ieee.{Format, Float, binary64, nan, inf, fin, le, lt, add, div, mul, of_int, to_signed}
 use Rattle.floats.specs.Interval.{within}
+use Rattle.floats.proofs.Order.{le_nan_r}
 use Rattle.remy.specs.declared.cube.Cube.{Cube}
 use Rattle.remy.specs.Cube.{point_of, zero, ack, send, ratio, usual_ends, root_of, contains_of, place_of_point}
 use Rattle.remy.specs.Action.{action_of, window_of}
@@ -35,14 +36,8 @@ unfolding contains_of le lt
 upper_end_out = refl
 
 -- NaN is in no cube
-le_nan : (x : Float) → le x nan ≡ false
-unfolding le
-le_nan nan = refl
-le_nan (inf s) = refl
-le_nan (fin s m e) = refl
-
 outside_nan : (lo hi : Float) → within lo hi nan ≡ false
-outside_nan lo hi = ap (λ (b : Bool). b && lt nan hi) (le_nan lo)
+outside_nan lo hi = ap (λ (b : Bool). b && lt nan hi) (le_nan_r lo)
 
 and_none : (b : Bool) → (b && false) ≡ false
 and_none true = refl

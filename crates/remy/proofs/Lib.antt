@@ -4,5 +4,4 @@ pub mod Partition
 pub mod Lens
 pub mod Paper
 pub mod Ends
-pub mod Chains
 pub mod Equality

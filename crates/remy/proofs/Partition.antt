@@ -14,19 +14,9 @@ use Rattle.floats.proofs.Interval.{middle_between, upper_half, lower_half, cut_l
 use Rattle.remy.specs.declared.point.Point.{Point}
 use Rattle.remy.specs.declared.cube.Cube.{Cube}
 use Rattle.remy.specs.declared.cube.Interval.{Interval}
-use Rattle.remy.specs.Cube.{ack, send, ratio, root_of, contains_of, middle_of, half_of, half_cube, number_of, child_cube, place_of_point, toward_of, Axis, Whole}
+use Rattle.remy.specs.Cube.{ack, send, ratio, root_of, contains_of, middle_of, half_of, half_cube, number_of, child_cube, place_of_point, Axis, Whole}
 use Rattle.remy.specs.Cube as cubes
 pub use Rattle.remy.proofs.Halves.{child_number}
-
--- ---- the child that a number names
-pub toward_cube : (c : Cube) (p : Point)
-    → (toward_of c p).cube ≡ half_cube c (middle_of c) (le (ack (middle_of c)) (ack p)) (le (send (middle_of c)) (send p)) (le (ratio (middle_of c)) (ratio p))
-unfolding toward_of
-toward_cube c p = child_number c (le (ack (middle_of c)) (ack p)) (le (send (middle_of c)) (send p)) (le (ratio (middle_of c)) (ratio p))
-
-pub toward_number : (c : Cube) (p : Point) → (toward_of c p).number ≡ place_of_point c p
-unfolding toward_of
-toward_number c p = refl
 
 -- ---- one axis, halved
 abbrev part : Float → Float → Bool → Interval

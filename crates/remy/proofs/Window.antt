@@ -164,9 +164,6 @@ wide_sum {a} {b} f g = record { sfits = let h = mag_sum a b (2 ^ 31) f.sfits g.s
 same : {z : ℤ} → SFits w32 z → to_z w64 (of_z w64 (to_z w32 (of_z w32 z))) ≡ z
 same {z} f = ap (λ (y : ℤ). to_z w64 (of_z w64 y)) (to_z-of_z w32 z f) ∙ to_z-of_z w64 z (wide f)
 
-pub wide_fits : {z : ℤ} → SFits w32 z → SFits w64 (to_z w32 (of_z w32 z))
-wide_fits {z} f = rw (to_z-of_z w32 z f) (wide f)
-
 pub sum_fits : {a b : ℤ} → SFits w32 a → SFits w32 b
     → SFits w64 (to_z w64 (of_z w64 (to_z w32 (of_z w32 a))) +ℤ to_z w64 (of_z w64 (to_z w32 (of_z w32 b))))
 sum_fits f g = rw (same f, same g) (wide_sum f g)

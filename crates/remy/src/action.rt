@@ -4,14 +4,14 @@ ghost use Rattle.remy.specs.Action.{valid_of, rule_of, window_of, action_of, cut
 
 use quantities::TimeSpan;
 
-#[derive(Clone, Copy)]
+#[derive(Clone, Copy, PartialEq)]
 pub struct Action {
     pub window_multiplier: f64,
     pub window_increment: i32,
     pub intersend_delay: TimeSpan,
 }
 
-// The window that an action gives, and whether the rule had to clip it.
+// The window that an action gives, and whether the rule had to clip it. Two answers, each always there, so no Option.
 #[derive(Clone, Copy)]
 pub struct Applied {
     pub window: u32,
@@ -64,7 +64,7 @@ fn cut_outside(x: f64) -> bool
     !(x > -2147483649.0 && x < 2147483648.0)
 }
 
-// The sum held to 0..=1,000,000.
+// The sum held to 0..=1,000,000; `cut` is one more reason to say clipped, and no Option: a product that was cut has its sum as any other.
 fn held(sum: i64, cut: bool) -> Applied
     ensures { result ≡ held_of sum cut }
 {

@@ -1,6 +1,6 @@
 -- What a list that passes the test of a growth is, number by number. Assumes nothing.
-use mathlib.Core.Path.{◌≡◌, refl}
-use mathlib.Core.Bool.{Bool, true, false}
+use mathlib.Core.Path.{◌≡◌}
+use mathlib.Core.Bool.{true, false}
 use mathlib.Core.List.{List, [], ◌∷◌}
 use Prim.Native.Nat.{ℕ, suc, ◌<◌, ◌≤◌}
 use native.Mathlib.Omega.{arith}
@@ -8,10 +8,6 @@ use lib.ListN.{length}
 use Rattle.std.proofs.lemmas.Bool.Decides.{nat_tests}
 use Rattle.rule_tree.specs.Nodes.{node_count}
 use Rattle.small_trees.specs.Lists.{names, grows_from, is_growth}
-
-pub otherwise : (p : Bool) → (p ≡ true → ⊥) → p ≡ false
-otherwise true h = absurd (h refl)
-otherwise false h = refl
 
 -- ---- a list that does not name x
 pub unnamed_head : (y : ℕ) (ys : List ℕ) (x : ℕ) → names (y ∷ ys) x ≡ false → y ≡ x → ⊥

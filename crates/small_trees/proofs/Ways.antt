@@ -7,15 +7,16 @@ use native.Mathlib.Omega.{arith}
 use borrow.Author.Tests.{lt-ltb, le-ltb, eq-eqb, ne_eqb}
 use lib.ListN.{length, get_or}
 use Rattle.std.specs.Prelude.{Some, None, Ok, Err}
+use Rattle.std.proofs.lemmas.Bool.{false_from_ne_true}
 use Rattle.refusal.specs.declared.Refusal.TheVariants.{NoSplitList}
 use Rattle.small_trees.specs.Lists.{is_growth}
 use Rattle.small_trees.specs.Calls.{next_of}
-use Rattle.small_trees.proofs.Tables.{next_above, next_out, next_two, next_three, two_next, leaf_next}
-use Rattle.small_trees.proofs.Growing.{otherwise, growth_short, growth_first, growth_second, growth_third, second_grows, third_grows}
+use Rattle.small_trees.proofs.Tables.{next_out, next_two, next_three, two_next, leaf_next}
+use Rattle.small_trees.proofs.Growing.{growth_short, growth_first, growth_second, growth_third, second_grows, third_grows}
 
 -- refused: any reason that it is no growth of at most n splits
 pub refused : (n : ℕ) (x : List ℕ) → (is_growth n x ≡ true → ⊥) → next_of n x ≡ Err NoSplitList
-refused n x h = next_out n x (otherwise (is_growth n x) h)
+refused n x h = next_out n x (false_from_ne_true (is_growth n x) h)
 
 -- ---- after []
 pub none_last : (n : ℕ) → n ≡ 0 → next_of n [] ≡ Ok None
@@ -92,10 +93,7 @@ three_refused n a b f =
     let q = growth_third n a b [] h in
     f (let m = growth_short n (0 ∷ a ∷ b ∷ []) h in omega arith) p.low (omega (arith, p.high)) q.low (omega (arith, q.high)) q.apart)
 
--- ---- an n above 3, and a list of another shape
-pub above_refused : (n : ℕ) (xs : List ℕ) → 3 < n → next_of n xs ≡ Err NoSplitList
-above_refused n xs l = next_above n xs l
-
+-- ---- a list of another shape
 pub long_refused : (n : ℕ) (xs : List ℕ) → n ≤ 3 → 4 ≤ length xs → next_of n xs ≡ Err NoSplitList
 long_refused n xs l m = refused n xs (λ h. let q = growth_short n xs h in absurd (omega arith))
 

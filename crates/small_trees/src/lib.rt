@@ -1,30 +1,29 @@
 // Every small tree in turn: the lists of at most three splits, shorter first and then by their node numbers.
 #![tactic(auto)]
 
-ghost use Rattle.std.specs.Prelude.{◌≡◌, ◌≢◌, [], ◌∷◌, ◌≤◌, Ok, length};
+ghost use Rattle.std.specs.Prelude.{◌≡◌, ◌≢◌, [], ◌∷◌, ◌<◌, ◌≤◌, Ok, length, MatchResult};
+ghost use Rattle.refusal.specs.declared.Refusal.TheVariants.{NoSplitList};
 ghost use Rattle.small_trees.specs.Calls.{next_of};
 
+use arrayvec::ArrayVec;
 use refusal::Refusal;
 use std::marker::Model;
 
 // The most splits of a list.
 pub const MOST_LISTED: u32 = 3;
 
-// A list of at most three splits, each of a node that is a leaf then. It stands in an array, since a library has no heap.
+// A list of at most three splits, each of a node that is a leaf then.
 #[derive(Drop)]
 pub struct SplitList {
-    nodes: [u16; 3],
-    count: usize,
+    splits: ArrayVec<u16, 3>,
 }
 
 impl Model for SplitList {
-    ghost use Rattle.std.specs.Prelude.{ℕ, ◌≤◌, List, take};
+    ghost use Rattle.std.specs.Prelude.{ℕ, List};
 
     ghost Value = { List ℕ };
 
-    ghost view = { λ s. take s.count s.nodes };
-
-    ghost invariant = { λ s. s.count ≤ 3 };
+    ghost view = { λ s. s.splits.items };
 }
 
 impl SplitList {
@@ -32,12 +31,11 @@ impl SplitList {
         requires { length splits.now ≤ 3 }
         ensures { result ≡ splits.now }
     {
-        let mut nodes = [0; 3];
-        nodes[..splits.len()].copy_from_slice(splits);
-        SplitList {
-            nodes,
-            count: splits.len(),
+        let mut list = ArrayVec::new();
+        for split in splits {
+            list.push(*split);
         }
+        SplitList { splits: list }
     }
 
     // The list of no split.
@@ -50,47 +48,73 @@ impl SplitList {
     pub fn as_slice(&self) -> &[u16]
         ensures { (result.now ≡ self.now) × (length self.now ≤ 3) }
     {
-        &self.nodes[..self.count]
+        self.splits.as_slice()
     }
 }
 
-// After [].
-#[tactic(auto, using(crate::proofs::Ways::none_last, crate::proofs::Ways::none_next))]
-fn after_none(n: u32) -> Result<Option<SplitList>, Refusal>
-    requires { n ≤ 3 }
-    ensures { result ≡ next_of n [] }
-{
-    if n == 0 {
-        Ok(None)
-    } else {
-        Ok(Some(SplitList::of(&[0])))
-    }
+// How many splits the lists have at most.
+#[derive(Clone, Copy)]
+struct Most {
+    n: u32,
+    ghost few: { n ≤ 3 },
 }
 
-// After [0].
-#[tactic(auto, using(crate::proofs::Ways::one_short, crate::proofs::Ways::one_last, crate::proofs::Ways::one_next))]
-fn after_one(n: u32) -> Result<Option<SplitList>, Refusal>
-    requires { n ≤ 3 }
-    ensures { result ≡ next_of n (0 ∷ []) }
-{
-    match n {
-        0 => Err(Refusal::NoSplitList),
-        1 => Ok(None),
-        _ => Ok(Some(SplitList::of(&[0, 1]))),
+impl Most {
+    fn of(n: u32) -> Result<Most, Refusal>
+        ensures { MatchResult result (λ most. most.n ≡ n) (λ e. (e ≡ NoSplitList) × (3 < n)) }
+    {
+        if MOST_LISTED < n {
+            return Err(Refusal::NoSplitList);
+        }
+        Ok(Most { n })
     }
-}
 
-// After [0, a].
-#[tactic(auto, using(crate::proofs::Ways::two_up, crate::proofs::Ways::two_last, crate::proofs::Ways::two_over, crate::proofs::Ways::two_refused))]
-fn after_two(n: u32, a: u16) -> Result<Option<SplitList>, Refusal>
-    requires { n ≤ 3 }
-    ensures { result ≡ next_of n (0 ∷ a ∷ []) }
-{
-    match (n, a) {
-        (2..=3, 1..=7) => Ok(Some(SplitList::of(&[0, a + 1]))),
-        (2, 8) => Ok(None),
-        (3, 8) => Ok(Some(SplitList::of(&[0, 1, 2]))),
-        _ => Err(Refusal::NoSplitList),
+    // After [].
+    #[tactic(auto, using(crate::proofs::Ways::none_last, crate::proofs::Ways::none_next))]
+    fn after_none(self) -> Result<Option<SplitList>, Refusal>
+        ensures { result ≡ next_of self.n [] }
+    {
+        if self.n == 0 {
+            Ok(None)
+        } else {
+            Ok(Some(SplitList::of(&[0])))
+        }
+    }
+
+    // After [0].
+    #[tactic(auto, using(crate::proofs::Ways::one_short, crate::proofs::Ways::one_last, crate::proofs::Ways::one_next))]
+    fn after_one(self) -> Result<Option<SplitList>, Refusal>
+        ensures { result ≡ next_of self.n (0 ∷ []) }
+    {
+        match self.n {
+            0 => Err(Refusal::NoSplitList),
+            1 => Ok(None),
+            _ => Ok(Some(SplitList::of(&[0, 1]))),
+        }
+    }
+
+    // After [0, a].
+    #[tactic(auto, using(crate::proofs::Ways::two_up, crate::proofs::Ways::two_last, crate::proofs::Ways::two_over, crate::proofs::Ways::two_refused))]
+    fn after_two(self, a: u16) -> Result<Option<SplitList>, Refusal>
+        ensures { result ≡ next_of self.n (0 ∷ a ∷ []) }
+    {
+        match (self.n, a) {
+            (2..=3, 1..=7) => Ok(Some(SplitList::of(&[0, a + 1]))),
+            (2, 8) => Ok(None),
+            (3, 8) => Ok(Some(SplitList::of(&[0, 1, 2]))),
+            _ => Err(Refusal::NoSplitList),
+        }
+    }
+
+    // After [0, a, b].
+    #[tactic(auto, using(crate::proofs::Ways::three_refused))]
+    fn after_three(self, a: u16, b: u16) -> Result<Option<SplitList>, Refusal>
+        ensures { result ≡ next_of self.n (0 ∷ a ∷ b ∷ []) }
+    {
+        match (self.n, a, b) {
+            (3, 1..=8, 1..=16) if a != b => Ok(after_leaf(a, b)),
+            _ => Err(Refusal::NoSplitList),
+        }
     }
 }
 
@@ -111,31 +135,17 @@ fn after_leaf(a: u16, b: u16) -> Option<SplitList>
     }
 }
 
-// After [0, a, b].
-#[tactic(auto, using(crate::proofs::Ways::three_refused))]
-fn after_three(n: u32, a: u16, b: u16) -> Result<Option<SplitList>, Refusal>
-    requires { n ≤ 3 }
-    ensures { result ≡ next_of n (0 ∷ a ∷ b ∷ []) }
-{
-    match (n, a, b) {
-        (3, 1..=8, 1..=16) if a != b => Ok(after_leaf(a, b)),
-        _ => Err(Refusal::NoSplitList),
-    }
-}
-
 // The list after this one among those of at most n splits; none after the last.
-#[tactic(auto, using(crate::proofs::Ways::above_refused))]
+#[tactic(auto, using(crate::proofs::Tables::next_above))]
 pub fn next(n: u32, list: &[u16]) -> Result<Option<SplitList>, Refusal>
     ensures { result ≡ next_of n list.now }
 {
-    if MOST_LISTED < n {
-        return Err(Refusal::NoSplitList);
-    }
+    let most = Most::of(n)?;
     match list {
-        [] => after_none(n),
-        [0] => after_one(n),
-        [0, a] => after_two(n, *a),
-        [0, a, b] => after_three(n, *a, *b),
+        [] => most.after_none(),
+        [0] => most.after_one(),
+        [0, a] => most.after_two(*a),
+        [0, a, b] => most.after_three(*a, *b),
         _ => Err(Refusal::NoSplitList),
     }
 }

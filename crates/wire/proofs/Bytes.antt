@@ -1,16 +1,19 @@
 -- Big-endian bytes: their count and range, the number that they stand for, and when two lists are the same. Assumes nothing.
 use mathlib.Core.Path.{◌≡◌, refl, sym, ap, ◌∙◌}
-use mathlib.Core.Bool.{Bool, true, false, ◌&&◌}
+use mathlib.Core.Bool.{Bool, true, false, ◌&&◌, true≢false}
 use mathlib.Core.List.{List, [], ◌∷◌, ◌++◌, append_assoc, append-nil}
 use Prim.Native.Nat.{ℕ, zero, suc, ◌+◌, ◌*◌, ◌/◌, ◌%◌, ◌^◌, ◌<◌, ◌≤◌}
-use native.Mathlib.Nat.{pow-suc, pow-le-pow_right}
+use mathlib.Core.Logic.{inl, inr}
+use native.Mathlib.Nat.{pow-suc, pow-le-pow_right, eq-or-lt_of_le}
 use native.Mathlib.Numerals.{add-one}
 use native.Mathlib.Omega.{arith}
-use borrow.Author.Tests.{eq-eqb, eqb-true}
+use borrow.Author.Tests.{eq-eqb}
 use lib.Dec.{eqb}
 use Rattle.std.specs.Prelude.{◌==◌}
-use Rattle.std.specs.Cmp.Lexicographic.{pointwise}
-use lib.ListN.{length, get_or, take, drop, length-append, length-drop, length-take}
+use Rattle.std.specs.Cmp.Lexicographic.{pointwise, same_text}
+use lib.ListN.{length, get_or, set, take, drop, length-append, length-drop, length-take}
+use Rattle.std.proofs.lemmas.List.{get_or-set_other}
+use Rattle.std.proofs.lemmas.Grind.{get_or-set_at}
 use lib.Seq.{take_at, take_all, take-suc, get_or-drop}
 use Rattle.wire.specs.Bytes.{bytes_of, shorts_bytes, value_from, number_at, same_bytes}
 
@@ -80,28 +83,7 @@ pub same_of : (xs ys : List ℕ) → xs ≡ ys → same_bytes xs ys ≡ true
 same_of xs ys e = ap (same_bytes xs) (sym e) ∙ same_self xs
 
 pub never : false ≡ true → ⊥
-never e = let z : ◌≡◌ {A = ℕ} 0 1 = cc in omega arith
-
-and_parts : (a b : Bool) → a && b ≡ true → (a ≡ true) × (b ≡ true)
-and_parts true b h = (refl, h)
-and_parts false b h = absurd (never h)
-
-pub same_is : (xs ys : List ℕ) → same_bytes xs ys ≡ true → xs ≡ ys
-unfolding same_bytes
-same_is [] [] h = refl
-same_is [] (y ∷ ys) h = absurd (never h)
-same_is (x ∷ xs) [] h = absurd (never h)
-same_is (x ∷ xs) (y ∷ ys) h =
-    let p : x ≡ y = eqb-true x y (and_parts (eqb x y) (same_bytes xs ys) h).0 in
-    let q : xs ≡ ys = same_is xs ys (and_parts (eqb x y) (same_bytes xs ys) h).1 in
-    cc
-
-pub false_of : (b : Bool) → (b ≡ true → ⊥) → b ≡ false
-false_of true h = absurd (h refl)
-false_of false h = refl
-
-pub same_not : (xs ys : List ℕ) → (xs ≡ ys → ⊥) → same_bytes xs ys ≡ false
-same_not xs ys h = false_of (same_bytes xs ys) (λ e. h (same_is xs ys e))
+never e = true≢false (sym e)
 
 -- `a == b` of two slices
 pub same_tested : (xs ys : List ℕ) → pointwise ◌==◌ xs ys ≡ same_bytes xs ys
@@ -110,6 +92,13 @@ same_tested [] [] = refl
 same_tested [] (y ∷ ys) = refl
 same_tested (x ∷ xs) [] = refl
 same_tested (x ∷ xs) (y ∷ ys) = ap (λ (b : Bool). eqb x y && b) (same_tested xs ys)
+
+pub same_is : (xs ys : List ℕ) → same_bytes xs ys ≡ true → xs ≡ ys
+same_is xs ys h = same_text xs ys (sym (same_tested xs ys ∙ h))
+
+pub false_of : (b : Bool) → (b ≡ true → ⊥) → b ≡ false
+false_of true h = absurd (h refl)
+false_of false h = refl
 
 -- ---- reading a number byte by byte
 pub number_none : (bytes : List ℕ) (at : ℕ) → 0 ≡ number_at bytes at 0
@@ -158,3 +147,18 @@ pub read_all : (bs : List ℕ) (i x : ℕ) (bytes : List ℕ) (at n : ℕ) → b
 read_all bs i x bytes at n e r h m =
     let l = field_length bytes at n e in
     (r.value ∙ ap (value_from 0) (take_all i bs h ∙ e), below_most i n x r.below (omega arith))
+
+-- ---- numbers one after the other into an array: one more
+pub counts_more : (f : ℕ → ℕ) (xs : List ℕ) (i x : ℕ) → i < length xs → ((k : ℕ) → k < i → get_or xs k 0 ≡ f k) → x ≡ f i → (k : ℕ) → k < i + 1
+    → get_or (set xs i x) k 0 ≡ f k
+counts_more f xs i x l h e k m =
+    elim (eq-or-lt_of_le (at_most k i m)) [
+      | inl p ↦ get_or-set_at xs i k x 0 p l ∙ e ∙ ap f (sym p)
+      | inr q ↦ get_or-set_other xs i k x 0 (λ p. apart p q) ∙ h k q
+    ]
+  where
+    at_most : (k i : ℕ) → k < i + 1 → k ≤ i
+    at_most k i m = omega arith
+
+    apart : {k i : ℕ} → k ≡ i → k < i → ⊥
+    apart p q = omega arith

@@ -1,19 +1,16 @@
--- Runs of stores one after the other, and actions and points from their fields. Assumes nothing.
+-- Runs of stores one after the other, and those of actions and points. Assumes nothing.
 use mathlib.Core.Path.{◌≡◌, ap, ◌∙◌}
 use mathlib.Core.List.{List, ◌++◌, append_assoc}
 use Prim.Native.Nat.{ℕ, ◌+◌}
-use lib.IntN.{ℤ}
-use lib.Ieee.{Float, binary64, to_bits}
+use lib.Ieee.{binary64, to_bits}
 use lib.ListN.{length, length-append}
 use lib.Seq.{sets}
 use mir.Syntax.{w32}
-use mir.Val.{of_z, to_z}
+use mir.Val.{of_z}
 use Rattle.remy.specs.declared.action.Action.{Action}
 use Rattle.remy.specs.declared.point.Point.{Point}
-use Rattle.remy.specs.Action.{action_of}
-use Rattle.remy.specs.Cube.{point_of}
-use Rattle.wire.specs.Bytes.{bytes_of, number_at}
-use Rattle.wire.specs.Fields.{float_at, action_at, point_at, action_bytes, point_bytes}
+use Rattle.wire.specs.Bytes.{bytes_of}
+use Rattle.wire.specs.Fields.{action_bytes, point_bytes}
 use Rattle.wire.proofs.Bytes.{bytes_count}
 use Rattle.wire.proofs.Stores.{wrote}
 
@@ -34,18 +31,7 @@ module _ (l : List ℕ) (at : ℕ) (x y z : List ℕ) (n m : ℕ) {l1 l2 l3 : Li
           → l5 ≡ sets l at (x ++ (y ++ (z ++ (w ++ v))))
       five p q r s t e f g h = wrote l l4 at k (x ++ (y ++ (z ++ w))) v t (four p q r s e f g) h ∙ simp append_assoc
 
--- ---- a point and an action, read
-pub point_read : (bytes : List ℕ) (at : ℕ) {a s r : Float} {p : Point} → p ≡ point_of a s r → a ≡ float_at bytes at → s ≡ float_at bytes (at + 8)
-    → r ≡ float_at bytes (at + 16) → p ≡ point_at bytes at
-point_read bytes at e x y z = e ∙ (λ j. record { ack_ewma = record { 0 = x j }; send_ewma = record { 0 = y j }; rtt_ratio = z j })
-
-pub action_read : (bytes : List ℕ) (at : ℕ) {m d : Float} {i : ℤ} {w : ℕ} {r : Action} → r ≡ action_of m i d → m ≡ float_at bytes at → i ≡ to_z w32 w
-    → w ≡ number_at bytes (at + 8) 4 → d ≡ float_at bytes (at + 12) → r ≡ action_at bytes at
-action_read bytes at e p q s t =
-    let z = q ∙ ap (to_z w32) s in
-    e ∙ (λ j. record { window_multiplier = p j; window_increment = z j; intersend_delay = record { 0 = t j } })
-
--- ---- and written
+-- ---- an action and a point, written
 pub action_written : (l : List ℕ) (at : ℕ) (a : Action) (m i d : ℕ) {l1 l2 l3 : List ℕ} → m ≡ to_bits binary64 a.window_multiplier
     → i ≡ of_z w32 a.window_increment → d ≡ to_bits binary64 a.intersend_delay.0
     → l1 ≡ sets l at (bytes_of 8 m) → l2 ≡ sets l1 (at + 8) (bytes_of 4 i) → l3 ≡ sets l2 (at + 12) (bytes_of 8 d) → l3 ≡ sets l at (action_bytes a)

@@ -1,13 +1,14 @@
--- Runs of stores: one after the other, and the loop that stores a number's bytes from the last one on. Assumes nothing.
+-- Runs of stores: one after the other, and the loops that store a number's bytes from the last one on, and a list of numbers. Assumes nothing.
 use mathlib.Core.Path.{◌≡◌, refl, sym, ap, ◌∙◌}
 use mathlib.Core.List.{List, [], ◌∷◌, ◌++◌}
-use Prim.Native.Nat.{ℕ, suc, ◌+◌, ◌-◌, ◌/◌, ◌%◌, ◌<◌, ◌≤◌}
+use Prim.Native.Nat.{ℕ, suc, ◌+◌, ◌-◌, ◌*◌, ◌/◌, ◌%◌, ◌<◌, ◌≤◌}
 use native.Mathlib.Nat.{add-zero, add-suc, suc-add}
 use native.Mathlib.Omega.{arith}
-use lib.ListN.{length, set}
-use lib.Seq.{sets, set_comm}
-use Rattle.wire.specs.Bytes.{bytes_of}
-use Rattle.wire.proofs.Bytes.{bytes_count}
+use lib.ListN.{length, get_or, set, take}
+use lib.Seq.{sets, set_comm, length-take-le}
+use Rattle.std.proofs.lemmas.List.{take_more}
+use Rattle.wire.specs.Bytes.{bytes_of, shorts_bytes}
+use Rattle.wire.proofs.Bytes.{bytes_count, shorts_count, shorts_more}
 
 pub sets_append : (xs l : List ℕ) (at : ℕ) (ys : List ℕ) → sets (sets l at xs) (at + length xs) ys ≡ sets l at (xs ++ ys)
 sets_append [] l at ys = ap (λ (k : ℕ). sets l k ys) (add-zero at)
@@ -44,3 +45,15 @@ put_turn l at left x h =
 pub put_done : (l : List ℕ) (at left x : ℕ) → left ≤ 0 → l ≡ sets l at (bytes_of left x)
 unfolding bytes_of
 put_done l at left x h = ap (λ (k : ℕ). sets l at (bytes_of k x)) (let e : 0 ≡ left = omega arith in e)
+
+-- ---- a list of numbers, two bytes each: none, and one more
+pub list_turn : (l : List ℕ) (at : ℕ) (xs : List ℕ) (k : ℕ) {l1 l2 : List ℕ} → k < length xs → l1 ≡ sets l at (shorts_bytes (take k xs))
+    → l2 ≡ sets l1 (at + 2 * k) (bytes_of 2 (get_or xs k 0)) → l2 ≡ sets l at (shorts_bytes (take (k + 1) xs))
+list_turn l at xs k {l1} h p q =
+    wrote l l1 at (2 * k) (shorts_bytes (take k xs)) (bytes_of 2 (get_or xs k 0)) q p
+    (shorts_count (take k xs) ∙ ap (λ (n : ℕ). 2 * n) (length-take-le k xs (omega arith)))
+    ∙ ap (sets l at) (sym (ap shorts_bytes (take_more xs k 0 h) ∙ shorts_more (take k xs) (get_or xs k 0)))
+
+pub list_none : (l : List ℕ) (at : ℕ) (xs : List ℕ) → l ≡ sets l at (shorts_bytes (take 0 xs))
+unfolding shorts_bytes
+list_none l at xs = refl

@@ -1,4 +1,4 @@
--- `bounds` is the table, computed. Assumes nothing.
+-- `bounds` is the table, computed, which the check does not do of itself. Assumes nothing.
 use Rattle.std.proofs.Common.{refl}
 use Rattle.std.specs.Float.Ieee.{of_bits, add, div}
 use Rattle.even.specs.Even.{rows_from}

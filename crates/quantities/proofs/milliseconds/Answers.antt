@@ -1,4 +1,4 @@
--- `milliseconds` divides by 1000. Assumes nothing.
+-- `milliseconds` divides by 1000; the check does not unfold a literal's bits of itself. Assumes nothing.
 use mathlib.Core.Path.{refl}
 use lib.Ieee.{of_bits}
 use Rattle.quantities.proofs.milliseconds.Goals as goal

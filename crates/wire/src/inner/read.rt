@@ -1,5 +1,5 @@
 // What stands at a place; what lies past the end reads as no bytes.
-ghost use Rattle.std.specs.Prelude.{◌≡◌, ◌^◌, ◌≤◌, ◌<◌, get_or, take, drop};
+ghost use Rattle.std.specs.Prelude.{◌≡◌, ℕ, ◌*◌, ◌^◌, ◌≤◌, ◌<◌, get_or, take, drop};
 ghost use Rattle.wire.specs.Bytes.{number_at};
 ghost use Rattle.wire.specs.Fields.{float_at, action_at, flag_at, point_at};
 
@@ -49,6 +49,18 @@ pub fn word_at(bytes: &[u8], at: usize) -> u32
     ensures { result ≡ number_at bytes.now at 4 }
 {
     number_at(bytes, at, 4) as u32
+}
+
+// The first n numbers of eight bytes each. The project's fixed memory: an array of N, of which the caller takes the first n.
+pub fn counts_at<const N: usize>(bytes: &[u8], n: usize) -> [u64; N]
+    requires { n ≤ N }
+    ensures { (i : ℕ) → i < n → get_or result i 0 ≡ number_at bytes.now (8 * i) 8 }
+{
+    let mut counts = [0; N];
+    for i in 0..n {
+        counts[i] = number_at(bytes, 8 * i, 8);
+    }
+    counts
 }
 
 pub fn float_at(bytes: &[u8], at: usize) -> f64

@@ -1,13 +1,13 @@
 // Stores from a place on. What is not written stays.
-ghost use Rattle.std.specs.Prelude.{◌≡◌, ◌+◌, ◌≤◌, length};
+ghost use Rattle.std.specs.Prelude.{◌≡◌, ◌+◌, ◌*◌, ◌≤◌, length};
 ghost use Rattle.std.proofs.lemmas.List.Edits.{sets};
-ghost use Rattle.wire.specs.Bytes.{bytes_of, flag_byte};
+ghost use Rattle.wire.specs.Bytes.{bytes_of, shorts_bytes, flag_byte};
 ghost use Rattle.wire.specs.Fields.{action_bytes, point_bytes};
 
 use remy::action::Action;
 use remy::point::Point;
 
-// x in n bytes from place at on, the highest first.
+// x in n bytes from place at on, the highest first. No `to_be_bytes`: it gives eight bytes, and n is the caller's.
 pub fn put(buf: &mut [u8], at: usize, n: usize, x: u64)
     requires { at + n ≤ length buf.old }
     ensures { buf.new ≡ sets buf.old at (bytes_of n x) }
@@ -19,12 +19,24 @@ pub fn put(buf: &mut [u8], at: usize, n: usize, x: u64)
     }
 }
 
+// Numbers of two bytes each, one after the other.
+#[tactic(auto, using(crate::proofs::Stores::list_none, crate::proofs::Stores::list_turn, std::proofs::lemmas::List::take_all))]
+pub fn put_list(buf: &mut [u8], at: usize, numbers: &[u16])
+    requires { at + 2 * length numbers.now ≤ length buf.old }
+    ensures { buf.new ≡ sets buf.old at (shorts_bytes numbers.now) }
+{
+    for (k, x) in numbers.iter().enumerate() {
+        put(buf, at + 2 * k, 2, u64::from(*x));
+    }
+}
+
 pub fn flag_of(b: bool) -> u8
     ensures { result ≡ flag_byte b }
 {
     u8::from(b)
 }
 
+// An action and a point are two layouts, of three fields each: an action's increment has four bytes.
 pub fn put_action(buf: &mut [u8], at: usize, a: Action)
     requires { at + 20 ≤ length buf.old }
     ensures { buf.new ≡ sets buf.old at (action_bytes a) }

@@ -1,4 +1,4 @@
--- `Interval::middle` halves the sum of the ends. Assumes nothing.
+-- `Interval::middle` halves the sum of the ends; the check does not unfold a literal's bits of itself. Assumes nothing.
 use mathlib.Core.Path.{refl}
 use lib.Ieee.{of_bits}
 use Rattle.remy.proofs.cube.Interval.middle.Goals as goal
