@@ -9,14 +9,13 @@ use native.Mathlib.Omega.{arith}
 use lib.Dec.{eqb}
 use lib.ListN.{get_or}
 use borrow.Author.Tests.{eqb-true, eq-eqb}
-use Rattle.std.specs.Prelude.{Some, None}
+use Rattle.std.specs.Prelude.{Ok, Some, None}
 use Rattle.remy.specs.declared.action.Action.{Action}
 use Rattle.remy.specs.declared.point.Point.{Point}
 use Rattle.remy.specs.declared.cube.Cube.{Cube}
 use Rattle.remy.specs.Action.{valid_of}
 use Rattle.remy.specs.Cube.{usual_ends, root_of, child_cube, contains_of, Whole}
 use Rattle.rule_tree.specs.declared.RuleTree.{RuleTree}
-use Rattle.rule_tree.specs.declared.Looked.TheVariants.{Found}
 use Rattle.rule_tree.specs.Lists.{tabulate, occurrences, all_below}
 use Rattle.rule_tree.specs.Nodes.{node_at_of, children_of, is_leaf_of, action_in}
 use Rattle.rule_tree.specs.Grown.{linked_of, grown_of}
@@ -148,12 +147,12 @@ module _ (t : RuleTree) (v : Even t) where
       where
         go : (b : Bool) → contains_of (root_of t.ends) p ≡ b → found_at t (row_of p) ≡ found_in t p
         go true e =
-            ap (found_at t) (row_inside e) ∙ ap (λ (i : ℕ). Found (action_in (node_at_of t.nodes i))) (reached_row e) ∙ sym (reached e).found
+            ap (found_at t) (row_inside e) ∙ ap (λ (i : ℕ). Some (action_in (node_at_of t.nodes i))) (reached_row e) ∙ sym (reached e).found
         go false e = ap (found_at t) (row_outside e) ∙ sym (in_none t p linked v.full whole e).nothing
 
-    pub lookups_agree : grown_of t ≡ true → lookup_of t p ≡ found_at t (row_of p)
+    pub lookups_agree : grown_of t ≡ true → lookup_of t p ≡ Ok (found_at t (row_of p))
     unfolding lookup_of
-    lookups_agree g = rw g (sym found_agrees)
+    lookups_agree g = rw g (ap Ok (sym found_agrees))
 
 -- ---- the grown tree
 pub even_growth : (a : Action) → valid_of a ≡ true → Growth (even_tree a)

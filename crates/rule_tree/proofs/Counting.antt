@@ -1,25 +1,23 @@
 -- Counts: what each turn of the loops over them adds, and what the most used leaf and an accepted list of counts are. Assumes nothing.
 use mathlib.Core.Path.{◌≡◌, refl, sym, ap, subst, ◌∙◌}
-use mathlib.Core.Bool.{Bool, true, false, not, ◌||◌, cond, or-true}
+use mathlib.Core.Bool.{Bool, true, false, not, ◌||◌, cond}
 use mathlib.Core.Logic.{⊎_elim}
 use mathlib.Core.List.{List}
-use Prim.Native.Nat.{ℕ, zero, suc, ◌+◌, ◌*◌, ◌-◌, ◌<◌, ◌≤◌}
+use Prim.Native.Nat.{ℕ, zero, suc, ◌+◌, ◌-◌, ◌<◌, ◌≤◌}
 use native.Mathlib.Nat.{eq-or-lt_of_le}
 use native.Mathlib.Numerals.{add-one}
 use native.Mathlib.Omega.{arith}
-use borrow.Author.Tests.{lt-ltb, le-ltb, le-leb, lt-leb, eq-eqb, ne_eqb, eqb-true, leb-true, leb-false, not-true}
-use lib.Dec.{eqb, leb, ltb}
+use borrow.Author.Tests.{le-leb, lt-leb, eq-eqb, eqb-true, leb-true, leb-false, not-true}
+use lib.Dec.{eqb, leb}
 use lib.ListN.{length, get_or, take}
-use lib.Seq.{take_all}
 use Rattle.rule_tree.specs.declared.Node.{Node}
 use Rattle.rule_tree.specs.declared.RuleTree.{RuleTree}
-use Rattle.rule_tree.specs.declared.Chosen.{Chosen}
-use Rattle.rule_tree.specs.declared.Chosen.TheVariants.{Leaf, Nobody, Refused}
-use Rattle.rule_tree.specs.Lists.{count_below, total}
+use Rattle.std.specs.Prelude.{Option, Some, None}
+use Rattle.rule_tree.specs.Lists.{total}
 use Rattle.rule_tree.specs.Nodes.{node_at_of, is_leaf_of, node_count}
-use Rattle.rule_tree.specs.Counts.{limit, capped_total, none_at_parents, counts_hold, used_in, eligible, better, most_used}
+use Rattle.rule_tree.specs.Counts.{limit, capped_total, none_at_parents, counts_hold, eligible, better, most_used}
 pub use Rattle.rule_tree.proofs.Lists.{and_left, and_right, and_both}
-use Rattle.rule_tree.proofs.Lists.{all_below_fails, all_below_more, all_below_at, all_below_all, count_below_yes, count_below_no, total_take, total_take_le}
+use Rattle.rule_tree.proofs.Lists.{all_below_at, all_below_all, total_take, total_take_le}
 
 -- ---- the total, up to the limit
 pub capped_over : (xs : List ℕ) (i s : ℕ) → i < length xs → s ≡ total (take i xs) → 9007199254740992 - s < get_or xs i 0 → 9007199254740993 ≡ capped_total xs
@@ -28,111 +26,43 @@ capped_over xs i s l e h = let a = total_take xs i l in let b = total_take_le xs
 pub capped_more : (xs : List ℕ) (i s : ℕ) → i < length xs → s ≡ total (take i xs) → s + get_or xs i 0 ≡ total (take (i + 1) xs)
 capped_more xs i s l e = omega (arith, total_take xs i l)
 
-pub capped_whole : (xs : List ℕ) (i s : ℕ) → length xs ≤ i → s ≡ total (take i xs) → s ≤ 9007199254740992 → s ≡ capped_total xs
-capped_whole xs i s l e h = let a = ap total (take_all i xs l) in omega arith
-
--- ---- no count above 0 at a parent
-pub parents_fail : (nodes : List Node) (xs : List ℕ) (i n : ℕ) → i < n → ((node_at_of nodes i).children ≡ 0 → ⊥) → (get_or xs i 0 ≡ 0 → ⊥) → none_at_parents nodes xs n ≡ false
-parents_fail nodes xs i n l p z = all_below_fails n i _ l (rw (ne_eqb _ 0 p, ne_eqb _ 0 z))
-
-pub parents_leaf : (nodes : List Node) (xs : List ℕ) (i : ℕ) → none_at_parents nodes xs i ≡ true → (node_at_of nodes i).children ≡ 0 → none_at_parents nodes xs (i + 1) ≡ true
-parents_leaf nodes xs i h p = all_below_more i _ h (rw (eq-eqb _ 0 p))
-
-pub parents_zero : (nodes : List Node) (xs : List ℕ) (i : ℕ) → none_at_parents nodes xs i ≡ true → get_or xs i 0 ≡ 0 → none_at_parents nodes xs (i + 1) ≡ true
-parents_zero nodes xs i h z = all_below_more i _ h (rw (eq-eqb _ 0 z, or-true))
-
-pub parents_whole : (nodes : List Node) (xs : List ℕ) (i : ℕ) → i ≤ length xs → length xs ≤ i → none_at_parents nodes xs i ≡ true → true ≡ none_at_parents nodes xs (length xs)
-parents_whole nodes xs i l g h = let e : i ≡ length xs = omega arith in sym (subst (λ (k : ℕ). none_at_parents nodes xs k ≡ true) e h)
-
--- ---- how many are above 0
-pub used_yes : (xs : List ℕ) (i n : ℕ) → n ≡ count_below i (λ k. ltb 0 (get_or xs k 0)) → 0 < get_or xs i 0 → n + 1 ≡ count_below (i + 1) (λ k. ltb 0 (get_or xs k 0))
-used_yes xs i n e h = let a = count_below_yes i (λ k. ltb 0 (get_or xs k 0)) (lt-ltb _ _ h) in omega arith
-
-pub used_no : (xs : List ℕ) (i n : ℕ) → n ≡ count_below i (λ k. ltb 0 (get_or xs k 0)) → get_or xs i 0 ≤ 0 → n ≡ count_below (i + 1) (λ k. ltb 0 (get_or xs k 0))
-used_no xs i n e h = let a = count_below_no i (λ k. ltb 0 (get_or xs k 0)) (le-ltb _ _ h) in omega arith
-
-pub used_whole : (xs : List ℕ) (i n : ℕ) → i ≤ length xs → length xs ≤ i → n ≡ count_below i (λ k. ltb 0 (get_or xs k 0)) → n ≡ used_in xs
-used_whole xs i n l g e = let p : i ≡ length xs = omega arith in subst (λ (k : ℕ). n ≡ count_below k (λ j. ltb 0 (get_or xs j 0))) p e
-
--- ---- which leaves are asked for
-pub eligible_unmarked : (x : Node) (u : Bool) → x.children ≡ 0 → u ≡ true → not x.optimized ≡ eligible x u
-unfolding eligible
-eligible_unmarked x u p q = rw (eq-eqb _ 0 p, q)
-
-pub eligible_any : (x : Node) (u : Bool) → x.children ≡ 0 → u ≡ false → true ≡ eligible x u
-unfolding eligible
-eligible_any x u p q = rw (eq-eqb _ 0 p, q)
-
-pub eligible_parent : (x : Node) (u : Bool) → (x.children ≡ 0 → ⊥) → false ≡ eligible x u
-unfolding eligible
-eligible_parent x u p = rw (ne_eqb _ 0 p)
-
 -- ---- the most used so far, as the loop holds it
-pub record Holding (nodes : List Node) (xs : List ℕ) (u : Bool) (i : ℕ) (found : Bool) (best most : ℕ) : Type 0 where
-  pub chosen : most_used nodes xs u i ≡ cond found (Leaf best) Nobody
-  pub count : most ≡ cond found (get_or xs best 0) 0
+-- the count of the leaf that was chosen, 0 where none was
+unfoldable pub count_at : List ℕ → Option ℕ → ℕ
+count_at xs (Some b) = get_or xs b 0
+count_at xs None = 0
+
+pub record Holding (nodes : List Node) (xs : List ℕ) (u : Bool) (i : ℕ) (best : Option ℕ) (most : ℕ) : Type 0 where
+  pub chosen : best ≡ most_used nodes xs u i
+  pub count : most ≡ count_at xs best
 
 module _ (nodes : List Node) (xs : List ℕ) (u : Bool) where
-  pub holding_moved :
-      (i : ℕ) (f g : Bool) (b c m n : ℕ) → Holding nodes xs u i f b m → g ≡ f → c ≡ b → n ≡ m → Holding nodes xs u i g c n
-  holding_moved i f g b c m n h p q r = rw (p, q, r) h
-
-  pub holding_none : Holding nodes xs u 0 false 0 0
-  unfolding most_used
+  pub holding_none : Holding nodes xs u 0 None 0
+  unfolding most_used count_at
   holding_none = record { chosen = refl; count = refl }
 
-  pub holding_skip :
-      (i : ℕ) (f : Bool) (b m : ℕ) → Holding nodes xs u i f b m → eligible (node_at_of nodes i) u ≡ false → Holding nodes xs u (i + 1) f b m
-  unfolding most_used
-  holding_skip i f b m h e = record { chosen = rw (add-one i, e) h.chosen; count = h.count }
+  module _ (i : ℕ) (best : Option ℕ) (most : ℕ) (h : Holding nodes xs u i best most) where
+    pub holding_skip : eligible (node_at_of nodes i) u ≡ false → Holding nodes xs u (i + 1) best most
+    unfolding most_used
+    holding_skip e = record { chosen = rw (add-one i, e) h.chosen; count = h.count }
 
-  pub holding_taken :
-      (i : ℕ) (f : Bool) (b m : ℕ) → Holding nodes xs u i f b m → eligible (node_at_of nodes i) u ≡ true → m ≤ get_or xs i 0
-      → Holding nodes xs u (i + 1) true i (get_or xs i 0)
-  unfolding most_used better
-  holding_taken i true b m h e l =
-      record {
-        chosen = rw (add-one i, e, h.chosen, le-leb (get_or xs b 0) (get_or xs i 0) (omega (arith, h.count)));
-        count = refl;
-      }
-  holding_taken i false b m h e l = record { chosen = rw (add-one i, e, h.chosen); count = refl }
+    pub holding_taken : eligible (node_at_of nodes i) u ≡ true → most ≤ get_or xs i 0 → Holding nodes xs u (i + 1) (Some i) (get_or xs i 0)
+    unfolding most_used count_at better
+    holding_taken e l = record { chosen = rw (add-one i, e, ← h.chosen) (go best h.count); count = refl }
+      where
+        go : (m : Option ℕ) → most ≡ count_at xs m → Some i ≡ better xs i m
+        go (Some b) c = rw (le-leb (get_or xs b 0) (get_or xs i 0) (omega arith))
+        go None c = refl
 
-  pub holding_kept :
-      (i : ℕ) (f : Bool) (b m : ℕ) → Holding nodes xs u i f b m → eligible (node_at_of nodes i) u ≡ true → get_or xs i 0 < m
-      → Holding nodes xs u (i + 1) f b m
-  unfolding most_used better
-  holding_kept i true b m h e l =
-      record {
-        chosen = rw (add-one i, e, h.chosen, lt-leb (get_or xs b 0) (get_or xs i 0) (omega (arith, h.count)));
-        count = h.count;
-      }
-  holding_kept i false b m h e l = absurd (omega (arith, h.count))
-
-  pub holding_leaf :
-      (i : ℕ) (f : Bool) (b m : ℕ) → i ≤ length xs → length xs ≤ i → Holding nodes xs u i f b m → f ≡ true → Leaf b ≡ most_used nodes xs u (length xs)
-  holding_leaf i f b m l g h e =
-      let p : i ≡ length xs = omega arith in
-      sym (subst (λ (k : ℕ). most_used nodes xs u k ≡ Leaf b) p (h.chosen ∙ ap (λ (t : Bool). cond t (Leaf b) Nobody) e))
-
-  pub holding_nobody :
-      (i : ℕ) (f : Bool) (b m : ℕ) → i ≤ length xs → length xs ≤ i → Holding nodes xs u i f b m → f ≡ false → Nobody ≡ most_used nodes xs u (length xs)
-  holding_nobody i f b m l g h e =
-      let p : i ≡ length xs = omega arith in
-      sym (subst (λ (k : ℕ). most_used nodes xs u k ≡ Nobody) p (h.chosen ∙ ap (λ (t : Bool). cond t (Leaf b) Nobody) e))
+    pub holding_kept : eligible (node_at_of nodes i) u ≡ true → get_or xs i 0 < most → Holding nodes xs u (i + 1) best most
+    unfolding most_used count_at better
+    holding_kept e l = record { chosen = rw (add-one i, e, ← h.chosen) (go best h.count); count = h.count }
+      where
+        go : (m : Option ℕ) → most ≡ count_at xs m → m ≡ better xs i m
+        go (Some b) c = rw (lt-leb (get_or xs b 0) (get_or xs i 0) (omega arith))
+        go None c = absurd (omega arith)
 
 -- ---- an accepted list of counts
-pub hold_tested : (t : RuleTree) (xs : List ℕ) (p : Bool) (n : ℕ) → length xs ≡ 1 + 8 * t.splits → p ≡ none_at_parents t.nodes xs (length xs) → p ≡ true → n ≡ capped_total xs → leb n 9007199254740992 ≡ counts_hold t xs
-unfolding counts_hold
-hold_tested t xs p n l e q m = rw (m, eq-eqb _ (node_count t.splits) l, sym e ∙ q)
-
-pub hold_at_parents : (t : RuleTree) (xs : List ℕ) (p : Bool) → length xs ≡ 1 + 8 * t.splits → p ≡ none_at_parents t.nodes xs (length xs) → p ≡ false → false ≡ counts_hold t xs
-unfolding counts_hold
-hold_at_parents t xs p l e q = rw (eq-eqb _ (node_count t.splits) l, sym e ∙ q)
-
-pub hold_length : (t : RuleTree) (xs : List ℕ) → (length xs ≡ 1 + 8 * t.splits → ⊥) → false ≡ counts_hold t xs
-unfolding counts_hold
-hold_length t xs l = rw (ne_eqb (length xs) (node_count t.splits) l)
-
 -- what an accepted list is, clause by clause of refusal 4
 pub record Accepted (t : RuleTree) (xs : List ℕ) : Type 0 where
   pub one_a_node : length xs ≡ node_count t.splits
@@ -173,10 +103,9 @@ pub record MostUsed (nodes : List Node) (xs : List ℕ) (u : Bool) (n b : ℕ) :
   pub greatest : (i : ℕ) → i < n → eligible (node_at_of nodes i) u ≡ true → get_or xs i 0 ≤ get_or xs b 0
   pub highest : (i : ℕ) → i < n → eligible (node_at_of nodes i) u ≡ true → get_or xs i 0 ≡ get_or xs b 0 → i ≤ b
 
-abbrev pub Says : List Node → List ℕ → Bool → ℕ → Chosen → Type 0
-Says nodes xs u n (Leaf b) = MostUsed nodes xs u n b
-Says nodes xs u n Nobody = (i : ℕ) → i < n → eligible (node_at_of nodes i) u ≡ false
-Says nodes xs u n (Refused k) = ⊥
+abbrev pub Says : List Node → List ℕ → Bool → ℕ → Option ℕ → Type 0
+Says nodes xs u n (Some b) = MostUsed nodes xs u n b
+Says nodes xs u n None = (i : ℕ) → i < n → eligible (node_at_of nodes i) u ≡ false
 
 module _ (nodes : List Node) (xs : List ℕ) (u : Bool) where
   abbrev asks : ℕ → Bool
@@ -186,8 +115,8 @@ module _ (nodes : List Node) (xs : List ℕ) (u : Bool) where
   true_is b p q = let z : ◌≡◌ {A = ℕ} 0 1 = cc in omega arith
 
   -- a node that is not asked for changes nothing
-  says_skip : (n : ℕ) (m : Chosen) → asks n ≡ false → Says nodes xs u n m → Says nodes xs u (suc n) m
-  says_skip n (Leaf b) e h =
+  says_skip : (n : ℕ) (m : Option ℕ) → asks n ≡ false → Says nodes xs u n m → Says nodes xs u (suc n) m
+  says_skip n (Some b) e h =
       record {
         below = omega (arith, h.below);
         asked = h.asked;
@@ -198,9 +127,8 @@ module _ (nodes : List Node) (xs : List ℕ) (u : Bool) where
             λ i l a s. ⊎_elim (λ (p : i ≡ n). absurd (true_is (asks n) e (subst (λ (k : ℕ). asks k ≡ true) p a))) (λ (q : i < n). h.highest i q a s)
             (eq-or-lt_of_le (omega arith));
       }
-  says_skip n Nobody e h =
+  says_skip n None e h =
       λ i l. ⊎_elim (λ (p : i ≡ n). subst (λ (k : ℕ). asks k ≡ false) (sym p) e) (λ (q : i < n). h i q) (eq-or-lt_of_le (omega arith))
-  says_skip n (Refused k) e h = h
 
   -- the newest node, with a count no lower than any before it
   newest : (n : ℕ) → asks n ≡ true → ((i : ℕ) → i < n → asks i ≡ true → get_or xs i 0 ≤ get_or xs n 0) → MostUsed nodes xs u (suc n) n
@@ -227,48 +155,43 @@ module _ (nodes : List Node) (xs : List ℕ) (u : Bool) where
             (eq-or-lt_of_le (omega arith));
       }
 
-  says_better : (n : ℕ) (m : Chosen) → asks n ≡ true → Says nodes xs u n m → Says nodes xs u (suc n) (better xs n m)
+  says_better : (n : ℕ) (m : Option ℕ) → asks n ≡ true → Says nodes xs u n m → Says nodes xs u (suc n) (better xs n m)
   unfolding better
-  says_better n (Leaf b) e h = go (leb (get_or xs b 0) (get_or xs n 0)) refl
+  says_better n (Some b) e h = go (leb (get_or xs b 0) (get_or xs n 0)) refl
     where
-      go : (t : Bool) → leb (get_or xs b 0) (get_or xs n 0) ≡ t → Says nodes xs u (suc n) (cond t (Leaf n) (Leaf b))
+      go : (t : Bool) → leb (get_or xs b 0) (get_or xs n 0) ≡ t → Says nodes xs u (suc n) (cond t (Some n) (Some b))
       go true p = newest n e (λ i l a. omega (arith, h.greatest i l a, leb-true (get_or xs b 0) (get_or xs n 0) p))
       go false p = kept n b (leb-false (get_or xs b 0) (get_or xs n 0) p) h
-  says_better n Nobody e h = newest n e (λ i l a. absurd (true_is (asks i) (h i l) a))
-  says_better n (Refused k) e h = h
+  says_better n None e h = newest n e (λ i l a. absurd (true_is (asks i) (h i l) a))
 
   pub most_used_says : (n : ℕ) → Says nodes xs u n (most_used nodes xs u n)
   unfolding most_used
   most_used_says zero = λ i l. absurd (omega arith)
   most_used_says (suc n) = go (asks n) refl (most_used nodes xs u n) (most_used_says n)
     where
-      go : (t : Bool) → asks n ≡ t → (m : Chosen) → Says nodes xs u n m → Says nodes xs u (suc n) (cond t (better xs n m) m)
+      go : (t : Bool) → asks n ≡ t → (m : Option ℕ) → Says nodes xs u n m → Says nodes xs u (suc n) (cond t (better xs n m) m)
       go true e m h = says_better n m e h
       go false e m h = says_skip n m e h
 
-  pub most_used_leaf : (n b : ℕ) → most_used nodes xs u n ≡ Leaf b → MostUsed nodes xs u n b
+  pub most_used_leaf : (n b : ℕ) → most_used nodes xs u n ≡ Some b → MostUsed nodes xs u n b
   most_used_leaf n b e = subst (Says nodes xs u n) e (most_used_says n)
 
-  pub most_used_nobody : (n : ℕ) → most_used nodes xs u n ≡ Nobody → (i : ℕ) → i < n → eligible (node_at_of nodes i) u ≡ false
+  pub most_used_nobody : (n : ℕ) → most_used nodes xs u n ≡ None → (i : ℕ) → i < n → eligible (node_at_of nodes i) u ≡ false
   most_used_nobody n e = subst (Says nodes xs u n) e (most_used_says n)
 
-  pub most_used_answers : (n k : ℕ) → most_used nodes xs u n ≡ Refused k → ⊥
-  most_used_answers n k e = subst (Says nodes xs u n) e (most_used_says n)
-
   -- where one of the first n nodes is asked for, some leaf is the answer
-  pub most_used_found : (n i : ℕ) → i < n → eligible (node_at_of nodes i) u ≡ true → (b : ℕ) × (most_used nodes xs u n ≡ Leaf b)
+  pub most_used_found : (n i : ℕ) → i < n → eligible (node_at_of nodes i) u ≡ true → (b : ℕ) × (most_used nodes xs u n ≡ Some b)
   most_used_found n i l a = go (most_used nodes xs u n) refl
     where
-      go : (m : Chosen) → most_used nodes xs u n ≡ m → (b : ℕ) × (most_used nodes xs u n ≡ Leaf b)
-      go (Leaf b) e = (b, e)
-      go Nobody e = absurd (true_is (asks i) (most_used_nobody n e i l) a)
-      go (Refused k) e = absurd (most_used_answers n k e)
+      go : (m : Option ℕ) → most_used nodes xs u n ≡ m → (b : ℕ) × (most_used nodes xs u n ≡ Some b)
+      go (Some b) e = (b, e)
+      go None e = absurd (true_is (asks i) (most_used_nobody n e i l) a)
 
   -- and it is the only node with those three properties
-  pub most_used_only : (n b : ℕ) → MostUsed nodes xs u n b → most_used nodes xs u n ≡ Leaf b
+  pub most_used_only : (n b : ℕ) → MostUsed nodes xs u n b → most_used nodes xs u n ≡ Some b
   most_used_only n b h = go (most_used_found n b h.below h.asked)
     where
-      go : (a : ℕ) × (most_used nodes xs u n ≡ Leaf a) → most_used nodes xs u n ≡ Leaf b
+      go : (a : ℕ) × (most_used nodes xs u n ≡ Some a) → most_used nodes xs u n ≡ Some b
       go r =
           let m = most_used_leaf n r.0 r.1 in
           let x = h.greatest r.0 m.below m.asked in
@@ -277,14 +200,14 @@ module _ (nodes : List Node) (xs : List ℕ) (u : Bool) where
           let v = h.highest r.0 m.below m.asked p in
           let w = m.highest b h.below h.asked (sym p) in
           let q : r.0 ≡ b = omega arith in
-          r.1 ∙ ap Leaf q
+          r.1 ∙ ap Some q
 
 -- marked leaves count too where all leaves are asked for, so a tree with a leaf has an answer
 pub any_leaf : (nodes : List Node) (i : ℕ) → is_leaf_of nodes i ≡ true → eligible (node_at_of nodes i) false ≡ true
 unfolding eligible
 any_leaf nodes i h = rw h
 
-pub most_used_of_leaves : (nodes : List Node) (xs : List ℕ) (n i : ℕ) → i < n → is_leaf_of nodes i ≡ true → most_used nodes xs false n ≡ Nobody → ⊥
+pub most_used_of_leaves : (nodes : List Node) (xs : List ℕ) (n i : ℕ) → i < n → is_leaf_of nodes i ≡ true → most_used nodes xs false n ≡ None → ⊥
 most_used_of_leaves nodes xs n i l h e =
     let z : ◌≡◌ {A = Bool} true false = sym (any_leaf nodes i h) ∙ most_used_nobody nodes xs false n e i l in
     let w : ◌≡◌ {A = ℕ} 0 1 = cc in

@@ -2,19 +2,15 @@
 use mathlib.Core.Path.{◌≡◌, refl, sym, ap, ◌∙◌}
 use mathlib.Core.Logic.{⊎_elim}
 use mathlib.Core.List.{List}
-use Prim.Native.Nat.{ℕ, zero, suc, ◌-◌, ◌*◌, ◌/◌, ◌%◌, ◌<◌, ◌≤◌}
+use Prim.Native.Nat.{ℕ, zero, suc, ◌-◌, ◌/◌, ◌%◌, ◌<◌, ◌≤◌}
 use native.Mathlib.Omega.{arith}
 use borrow.Author.Tests.{eq-eqb, ne_eqb}
 use lib.ListN.{get_or}
 use Rattle.remy.specs.declared.cube.Cube.{Cube}
 use Rattle.remy.specs.Cube.{child_cube}
-use Rattle.rule_tree.specs.Nodes.{slots, most_splits}
-use Rattle.rule_tree.specs.Cubes.{cube_at}
+use Rattle.rule_tree.specs.Nodes.{slots}
+use Rattle.rule_tree.specs.Cubes.{Before, cube_at}
 use Rattle.rule_tree.proofs.Owners.{same_or_not}
-
--- each split's node comes before the eight nodes that it adds
-abbrev pub Low : List ℕ → Type 0
-Low ps = (k : ℕ) → k < most_splits → get_or ps k 0 ≤ 8 * k
 
 -- the parent of node i
 abbrev pub parent_of : List ℕ → ℕ → ℕ
@@ -31,7 +27,7 @@ pub step_cube : (d : ℕ) (ps : List ℕ) (root : Cube) (i : ℕ) → (i ≡ 0 �
 unfolding cube_at
 step_cube d ps root i n = rw (ne_eqb i 0 n)
 
-module _ (ps : List ℕ) (root : Cube) (low : Low ps) where
+module _ (ps : List ℕ) (root : Cube) (low : Before ps) where
   pub parent_before : (i : ℕ) → i < slots → (i ≡ 0 → ⊥) → parent_of ps i < i
   parent_before i b n = let z : 0 < i = positive i n in omega (arith, low ((i - 1) / 8) (omega arith))
     where

@@ -2,16 +2,14 @@
 use mathlib.Core.Path.{◌≡◌, refl}
 use mathlib.Core.Bool.{Bool, true, false, ◌&&◌, cond}
 use mathlib.Core.List.{List}
-use Prim.Native.Nat.{ℕ, zero, suc, ◌+◌, ◌-◌, ◌≤◌}
+use Prim.Native.Nat.{ℕ, zero, suc, ◌-◌, ◌≤◌}
 use native.Mathlib.Numerals.{sub-one}
 use lib.Dec.{eqb}
 use lib.ListN.{length, get_or-eq_default}
 use lib.Ieee.{Float, nan, inf, fin, eq}
 use Rattle.remy.specs.declared.action.Action.{Action}
 use Rattle.remy.specs.declared.cube.Cube.{Cube}
-use Rattle.remy.specs.Cube.{child_cube}
 use Rattle.rule_tree.specs.declared.Node.{Node}
-use Rattle.rule_tree.specs.Lists.{all_below}
 use Rattle.rule_tree.specs.Nodes.{node_at_of, no_node, action_in}
 use Rattle.rule_tree.specs.Equal.{cube_equal, action_equal, node_equal, children_equal}
 use Rattle.rule_tree.proofs.Lists.{and-false}
@@ -29,25 +27,6 @@ level (suc n) s t i j c d f = rw (sub-one (suc n))
 pub none_deep : (n : ℕ) (s t : List Node) (i j : ℕ) (c d : Cube) → n ≡ 0 → node_equal n s t i j c d ≡ false
 unfolding node_equal
 none_deep n s t i j c d e = rw e
-
--- two nodes that differ in their marks alone, and lists of such
-pub record Alike (x y : Node) : Type 0 where
-  pub links : x.children ≡ y.children
-  pub actions : action_in x ≡ action_in y
-
-abbrev pub AllAlike : List Node → List Node → Type 0
-AllAlike s t = (k : ℕ) → Alike (node_at_of s k) (node_at_of t k)
-
--- equality looks at links and actions alone
-pub same_fields : (n : ℕ) (s s' t t' : List Node) → AllAlike s s' → AllAlike t t' → (i j : ℕ) (c d : Cube) → node_equal n s t i j c d ≡ node_equal n s' t' i j c d
-unfolding node_equal
-same_fields zero s s' t t' p q i j c d = refl
-same_fields (suc n) s s' t t' p q i j c d =
-    λ z. cube_equal c d
-    && cond (eqb ((p i).links z) 0)
-    (cond (eqb ((q j).links z) 0) (action_equal ((p i).actions z) ((q j).actions z)) false)
-    (cond (eqb ((q j).links z) 0) false
-    (all_below 8 (λ k. same_fields n s s' t t' p q ((p i).links z + k) ((q j).links z + k) (child_cube c k) (child_cube d k) z)))
 
 -- a node past the end is a leaf whose action is not a number, so it equals none
 eq_nan : (x : Float) → eq x nan ≡ false

@@ -12,7 +12,7 @@ use lib.Ieee.{to_bits}
 use Rattle.remy.specs.Action.{valid_of}
 use Rattle.rule_tree.specs.declared.Node.{Node}
 use Rattle.rule_tree.specs.declared.RuleTree.{RuleTree}
-use Rattle.rule_tree.specs.declared.Chosen.TheVariants.{Leaf}
+use Rattle.std.specs.Prelude.{Some}
 use Rattle.rule_tree.specs.Lists.{occurrences}
 use Rattle.rule_tree.specs.Nodes.{no_node, node_at_of, is_leaf_of, node_count, children_of, action_in}
 use Rattle.rule_tree.specs.Grown.{link_holds, links_hold, owners_of, all_ones, linked_of, plain_of, slot_holds, payloads_hold, ends_hold, grown_of}
@@ -148,13 +148,13 @@ module _ (t : RuleTree) (g : Grown t) where
 -- ---- the most used of a tree's leaves
 module _ (t : RuleTree) (xs : List ℕ) (c : counts_hold t xs ≡ true) where
   -- whichever leaves are asked for, the answer names a leaf
-  pub chosen_leaf_lem : (u : Bool) (b : ℕ) → most_used t.nodes xs u (length xs) ≡ Leaf b → leaf_in t b ≡ true
+  pub chosen_leaf_lem : (u : Bool) (b : ℕ) → most_used t.nodes xs u (length xs) ≡ Some b → leaf_in t b ≡ true
   chosen_leaf_lem u b e =
       let m = most_used_leaf t.nodes xs u (length xs) b e in
       leaf_from t b (omega (arith, m.below, (counts_accepted t xs c).one_a_node)) (eligible_leaf (node_at_of t.nodes b) u m.asked)
 
   -- with no leaf left out there is an answer
-  pub chosen_found : grown_of t ≡ true → (b : ℕ) × (most_used t.nodes xs false (length xs) ≡ Leaf b)
+  pub chosen_found : grown_of t ≡ true → (b : ℕ) × (most_used t.nodes xs false (length xs) ≡ Some b)
   chosen_found h =
       let l = last_leaf t (grown_facts t h) in
       most_used_found t.nodes xs false (length xs) (8 * t.splits)

@@ -10,10 +10,10 @@ pub mod Plain
 pub mod Links
 pub mod Patched
 pub mod Undoing
-pub mod HeldActions
 pub mod EqualLevel
 pub mod EqualWays
 pub mod Walking
 pub mod Looking
 pub mod Ways
 pub mod Leaf
+pub mod Finding

@@ -14,12 +14,12 @@ use Rattle.rule_tree.specs.declared.RuleTree.{RuleTree}
 use Rattle.rule_tree.specs.Lists.{occurrences}
 use Rattle.rule_tree.specs.Nodes.{node_at_of, children_of, node_count, action_in}
 use Rattle.rule_tree.specs.Grown.{link_holds, links_hold, owners_of, all_ones, linked_of, plain_of, slot_holds, payloads_hold, ends_hold, grown_of}
-use Rattle.rule_tree.specs.Cubes.{owner_below, split_nodes, cube_at, cube_of}
+use Rattle.rule_tree.specs.Cubes.{owner_below, split_nodes, Before, cube_at, cube_of}
 use Rattle.rule_tree.proofs.Lists.{all_below_at, all_below_all, get_d_tabulate}
 use Rattle.rule_tree.proofs.LinkWays.{children_at, children_count, slot_used, slot_unused}
 use Rattle.rule_tree.proofs.Owners.{same_or_not, below_or_not, Once, once_of, owner_found, owner_is}
 use Rattle.rule_tree.proofs.Plain.{and_l, and_r, PointFits, ends_admitted_lem, ends_whole}
-use Rattle.rule_tree.proofs.CubeSteps.{Low, parent_of, child_step}
+use Rattle.rule_tree.proofs.CubeSteps.{parent_of, child_step}
 
 -- ---- one link
 pub record Link (s c i : ℕ) : Type 0 where
@@ -140,7 +140,7 @@ module _ (t : RuleTree) (g : grown_of t ≡ true) where
       o.only j (held_below cs j (λ z. n (sym e ∙ z))) (e ∙ q) ∙ sym (o.only i (held_below cs i n) q)
 
   -- what cube_at asks of the splits' nodes
-  pub grown_low : Low (split_nodes (children_of t.nodes))
+  pub grown_low : Before (split_nodes (children_of t.nodes))
   grown_low k l =
       let cs = children_of t.nodes in
       let e : get_or (split_nodes cs) k 0 ≡ owner_below 513 cs (8 * k + 1) =

@@ -7,28 +7,15 @@ use Prim.Native.Nat.{ℕ, zero, suc, ◌+◌, ◌*◌, ◌/◌, ◌%◌, ◌<◌
 use native.Mathlib.Nat.{eq-or-lt_of_le}
 use native.Mathlib.Numerals.{add-one}
 use native.Mathlib.Omega.{arith}
-use borrow.Author.Tests.{eq-eqb, ne_eqb, eqb-true, eqb-false, ltb-true, ltb-false}
-use lib.Dec.{eqb, ltb}
+use borrow.Author.Tests.{eq-eqb, ne_eqb}
+use lib.Dec.{eqb}
 use lib.ListN.{length, get_or, set, take, length-set}
 use lib.Seq.{get_or-set_same, get_or-set_other, ext_get_or, take-suc, take_all}
+pub use Rattle.std.proofs.lemmas.Bool.{cases_eq as same_or_not, cases_lt as below_or_not}
 use Rattle.rule_tree.specs.Lists.{occurrences, tabulate}
 use Rattle.rule_tree.specs.Grown.{owners_of}
 use Rattle.rule_tree.specs.Cubes.{owner_below, split_nodes}
 use Rattle.rule_tree.proofs.Lists.{occurrences_append, length_tabulate, get_d_tabulate}
-
-pub same_or_not : (a b : ℕ) → (a ≡ b) ⊎ (a ≡ b → ⊥)
-same_or_not a b = go (eqb a b) refl
-  where
-    go : (t : Bool) → eqb a b ≡ t → (a ≡ b) ⊎ (a ≡ b → ⊥)
-    go true e = inl (eqb-true a b e)
-    go false e = inr (eqb-false a b e)
-
-pub below_or_not : (a b : ℕ) → (a < b) ⊎ (b ≤ a)
-below_or_not a b = go (ltb a b) refl
-  where
-    go : (t : Bool) → ltb a b ≡ t → (a < b) ⊎ (b ≤ a)
-    go true e = inl (ltb-true a b e)
-    go false e = inr (ltb-false a b e)
 
 -- ---- g i f: what stands for the first child f once i nodes are seen; n buckets hold it for f = 8 k + 1
 abbrev pub Buckets : ℕ → (ℕ → ℕ → ℕ) → List ℕ → ℕ → Type 0

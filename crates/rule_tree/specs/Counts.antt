@@ -1,9 +1,7 @@
 -- Counts, one a node: refusal 4, the most used leaf, and how many are used.
-use Rattle.std.specs.Prelude.{Bool, not, ◌&&◌, ◌||◌, cond, List, ℕ, zero, suc, ◌+◌, min, length, get_or, eqb, leb, ltb}
+use Rattle.std.specs.Prelude.{Bool, not, ◌&&◌, ◌||◌, cond, List, ℕ, zero, suc, ◌+◌, min, length, get_or, eqb, leb, ltb, Option, Some, None}
 use Rattle.rule_tree.specs.declared.Node.{Node}
 use Rattle.rule_tree.specs.declared.RuleTree.{RuleTree}
-use Rattle.rule_tree.specs.declared.Chosen.{Chosen}
-use Rattle.rule_tree.specs.declared.Chosen.TheVariants.{Leaf, Nobody, Refused}
 use Rattle.rule_tree.specs.Lists.{all_below, count_below, total}
 use Rattle.rule_tree.specs.Nodes.{node_at_of, is_leaf_of, node_count}
 
@@ -34,14 +32,13 @@ unfoldable pub eligible : Node → Bool → Bool
 eligible x unmarked = eqb x.children 0 && not (unmarked && x.optimized)
 
 -- "greatest count, ties to the highest node": the better of what was chosen before and the leaf i
-unfoldable pub better : List ℕ → ℕ → Chosen → Chosen
-better xs i (Leaf b) = cond (leb (get_or xs b 0) (get_or xs i 0)) (Leaf i) (Leaf b)
-better xs i Nobody = Leaf i
-better xs i (Refused k) = Refused k
+unfoldable pub better : List ℕ → ℕ → Option ℕ → Option ℕ
+better xs i (Some b) = cond (leb (get_or xs b 0) (get_or xs i 0)) (Some i) (Some b)
+better xs i None = Some i
 
 -- the most used among the first n nodes
-unfoldable pub most_used : List Node → List ℕ → Bool → ℕ → Chosen
+unfoldable pub most_used : List Node → List ℕ → Bool → ℕ → Option ℕ
 unfolding eligible better
-most_used nodes xs unmarked zero = Nobody
+most_used nodes xs unmarked zero = None
 most_used nodes xs unmarked (suc i) =
     cond (eligible (node_at_of nodes i) unmarked) (better xs i (most_used nodes xs unmarked i)) (most_used nodes xs unmarked i)

@@ -1,5 +1,5 @@
 -- The cube of a node, from the splits alone.
-use Rattle.std.specs.Prelude.{cond, List, ℕ, zero, suc, ◌+◌, ◌-◌, ◌*◌, ◌/◌, ◌%◌, get_or, eqb}
+use Rattle.std.specs.Prelude.{cond, List, ℕ, zero, suc, ◌+◌, ◌-◌, ◌*◌, ◌/◌, ◌%◌, ◌<◌, ◌≤◌, get_or, eqb}
 use Rattle.remy.specs.declared.cube.Cube.{Cube}
 use Rattle.remy.specs.Cube.{child_cube, root_of}
 use Rattle.rule_tree.specs.declared.RuleTree.{RuleTree}
@@ -14,6 +14,10 @@ owner_below (suc n) cs f = cond (eqb (get_or cs n 0) f) n (owner_below n cs f)
 -- the node that each split made a parent
 abbrev pub split_nodes : List ℕ → List ℕ
 split_nodes cs = tabulate most_splits (λ k. owner_below slots cs (8 * k + 1))
+
+-- each split's node comes before the eight nodes that it adds
+abbrev pub Before : List ℕ → Type 0
+Before ps = (k : ℕ) → k < most_splits → get_or ps k 0 ≤ 8 * k
 
 -- node 0 has the root cube, and any other is child (i - 1) % 8 of the node that its split made a parent; d is at least i
 unfoldable pub cube_at : ℕ → List ℕ → Cube → ℕ → Cube

@@ -1,17 +1,15 @@
 -- 01, "Equality": "two nodes are equal when their cubes are and their children are pairwise equal, leaves by cube and action; marks don't count".
-use Rattle.std.specs.Prelude.{◌≡◌, Bool, false, ◌&&◌, cond, List, ℕ, zero, suc, ◌+◌, ◌*◌, ◌<◌, eqb, get_or, Float}
-use Rattle.std.specs.Float.{nan}
-use Rattle.std.specs.Float.Ieee.{eq, to_signed}
+use Rattle.std.specs.Prelude.{Bool, false, ◌&&◌, cond, List, ℕ, zero, suc, ◌+◌, eqb}
+use Rattle.std.specs.Float.Ieee.{eq}
 use Rattle.std.specs.Int.{w32}
 use Rattle.std.proofs.Common.{of_z}
 use Rattle.remy.specs.declared.action.Action.{Action}
 use Rattle.remy.specs.declared.cube.Cube.{Cube}
-use Rattle.remy.specs.Action.{action_of}
 use Rattle.remy.specs.Cube.{point_equal, child_cube, root_of}
 use Rattle.rule_tree.specs.declared.Node.{Node}
 use Rattle.rule_tree.specs.declared.RuleTree.{RuleTree}
-use Rattle.rule_tree.specs.Lists.{all_below, tabulate}
-use Rattle.rule_tree.specs.Nodes.{node_at_of, slots, action_in, node_holding}
+use Rattle.rule_tree.specs.Lists.{all_below}
+use Rattle.rule_tree.specs.Nodes.{node_at_of, slots, action_in}
 
 unfoldable pub cube_equal : Cube → Cube → Bool
 unfolding point_equal
@@ -42,18 +40,3 @@ trees_equal a b = node_equal slots a.nodes b.nodes 0 0 (root_of a.ends) (root_of
 -- the children of two parents, x and y being the first of each, pair by pair
 abbrev pub children_equal : ℕ → List Node → List Node → ℕ → ℕ → Cube → Cube → Bool
 children_equal depth s t x y c d = all_below 8 (λ k. node_equal depth s t (x + k) (y + k) (child_cube c k) (child_cube d k))
-
--- the action that three numbers in a row hold: multiplier, increment, delay
-abbrev pub action_from : List Float → ℕ → Action
-action_from xs i = action_of (get_or xs (3 * i) nan) (to_signed 31 (get_or xs (3 * i + 1) nan)) (get_or xs (3 * i + 2) nan)
-
--- such numbers hold the actions of the first n nodes
-abbrev pub ActionsHeld : List Node → List Float → ℕ → Type 0
-ActionsHeld nodes xs n = (k : ℕ) → k < n → action_from xs k ≡ action_in (node_at_of nodes k)
-
--- the nodes that links and such numbers hold, unmarked
-abbrev pub node_from : List ℕ → List Float → ℕ → Node
-node_from cs xs i = node_holding (action_from xs i) (get_or cs i 0) false
-
-unfoldable pub nodes_from : List ℕ → List Float → List Node
-nodes_from cs xs = tabulate slots (node_from cs xs)

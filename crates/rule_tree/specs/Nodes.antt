@@ -1,5 +1,5 @@
 -- 01, "rule_tree.rs": nodes, leaves and parents.
-use Rattle.std.specs.Prelude.{Bool, false, List, map, ℕ, ◌+◌, ◌*◌, get_or, pos, eqb}
+use Rattle.std.specs.Prelude.{Bool, false, List, map, ◌++◌, ℕ, ◌+◌, ◌*◌, get_or, take, drop, replicate, pos, eqb}
 use Rattle.std.specs.Float.{nan}
 use Rattle.remy.specs.declared.action.Action.{Action}
 use Rattle.remy.specs.Action.{action_of}
@@ -64,3 +64,8 @@ slots = node_count most_splits
 
 abbrev pub is_leaf_of : List Node → ℕ → Bool
 is_leaf_of nodes i = eqb (node_at_of nodes i).children 0
+
+-- ---- what the private functions of the code are held to
+-- the links of the first n nodes, and none after them
+unfoldable pub links_of : List Node → ℕ → List ℕ
+links_of nodes n = take n (children_of nodes) ++ drop n (replicate slots 0)

@@ -3,6 +3,8 @@ pub mod change;
 pub mod counts;
 pub mod cubes;
 pub mod equal;
+pub mod grown;
 pub mod leaf;
 pub mod links;
+pub mod rules;
 pub mod walk;

@@ -6,7 +6,10 @@ ghost use Rattle.rule_tree.specs.Nodes.{action_in, node_holding};
 ghost use Rattle.rule_tree.specs.Grown.{grown_of};
 ghost use Rattle.rule_tree.specs.Calls.{new_of, domain_of, opened_of, replaced_of, tally_of, counted_in, set_of, mark_of, clear_of, split_of, undo_of, parents_of, used_of, most_used_of, equal_of};
 
+use crate::inner::grown::Grown;
+use crate::inner::rules::Rules;
 use quantities::TimeSpan;
+use refusal::Refusal;
 use remy::action::Action;
 use remy::cube::Cube;
 use remy::point::Point;
@@ -26,7 +29,7 @@ pub const MOST_NODES: u16 = NODES as u16;
 pub const MOST_COUNTED: u64 = 1 << 53;
 
 // A node: a leaf where children is 0, else a parent whose first child has that number.
-// The fields of its action stand side by side with them, the widest first, so that a node takes 24 bytes.
+// The fields of its action stand side by side with them, the widest first, so that a node takes 24 bytes; with an Option for children it would take 32.
 #[derive(Clone, Copy)]
 pub struct Node {
     pub window_multiplier: f64,
@@ -62,6 +65,7 @@ impl Node {
     }
 }
 
+// The project's fixed memory: an array of nodes, of which 1 + 8 splits are in use. Children, and the parents that splits made, are named by number.
 #[derive(Clone, Copy)]
 pub struct RuleTree {
     pub nodes: [Node; NODES],
@@ -69,57 +73,11 @@ pub struct RuleTree {
     pub ends: Point,
 }
 
-// A tree after a call, or the tree that came and the refusal's number.
-#[derive(Clone, Copy)]
-pub struct Changed {
-    pub refused: u32,
-    pub tree: RuleTree,
-}
-
-#[derive(Clone, Copy)]
-pub enum Looked {
-    Found(Action),
-    Nothing,
-    Refused(u32),
-}
-
-// What a lookup finds, and the number of cubes that it tested.
+// What a lookup finds, none outside the box, and the number of cubes that it tested.
 #[derive(Clone, Copy)]
 pub struct Lookup {
-    pub found: Looked,
+    pub found: Result<Option<Action>, Refusal>,
     pub tested: u32,
-}
-
-#[derive(Clone, Copy)]
-pub enum Domain {
-    Of(Cube),
-    Refused(u32),
-}
-
-#[derive(Clone, Copy)]
-pub enum Tallied {
-    Counted(u16),
-    Nothing,
-    Refused(u32),
-}
-
-#[derive(Clone, Copy)]
-pub enum Chosen {
-    Leaf(u16),
-    Nobody,
-    Refused(u32),
-}
-
-#[derive(Clone, Copy)]
-pub enum Number {
-    Of(u32),
-    Refused(u32),
-}
-
-#[derive(Clone, Copy)]
-pub enum Compared {
-    Same(bool),
-    Refused(u32),
 }
 
 // The tree with one leaf's action replaced.
@@ -131,251 +89,171 @@ pub struct AugmentedRuleTree {
 }
 
 impl AugmentedRuleTree {
-    pub fn action(self, p: Point) -> Looked
+    #[tactic(auto, unfolding(crate::specs::Calls::replaced_of))]
+    pub fn action(self, p: Point) -> Result<Option<Action>, Refusal>
         ensures { result ≡ replaced_of self p }
     {
-        let t = self.tree;
-        let a = self.action;
-        let leaf = self.leaf;
-        if inner::links::grown(t) {
-            if inner::change::is_leaf(t, leaf) {
-                if a.valid() {
-                    return inner::walk::looked_replaced(t, leaf, a, p);
-                }
-                return Looked::Refused(refusal::NOT_ADMITTED);
-            }
-            return Looked::Refused(refusal::NO_LEAF);
+        let t = Grown::of(&self.tree)?;
+        t.leaf(self.leaf)?;
+        if !self.action.valid() {
+            return Err(Refusal::NotAdmitted);
         }
-        Looked::Refused(refusal::NOT_GROWN)
+        Ok(t.found_replaced(self.leaf, self.action, p))
     }
 }
 
 impl RuleTree {
-    // One leaf, the root, with its upper ends and the action. A refused start hands back a tree that every call refuses.
-    pub fn new(ends: Point, action: Action) -> Changed
+    // One leaf, the root, with its upper ends and the action.
+    #[tactic(auto, unfolding(crate::specs::Calls::new_of))]
+    pub fn new(ends: Point, action: Action) -> Result<RuleTree, Refusal>
         ensures { result ≡ new_of ends action }
     {
-        if inner::links::ends_hold(ends) {
-            if action.valid() {
-                let tree = inner::change::fresh(ends, action);
-                return Changed { refused: 0, tree };
-            }
-            let tree = inner::change::blank();
-            return Changed {
-                refused: refusal::NOT_ADMITTED,
-                tree,
-            };
+        if !inner::links::ends_hold(ends) {
+            return Err(Refusal::BadSettings);
         }
-        let tree = inner::change::blank();
-        Changed {
-            refused: refusal::BAD_SETTINGS,
-            tree,
+        if !action.valid() {
+            return Err(Refusal::NotAdmitted);
         }
+        Ok(inner::change::fresh(ends, action))
     }
 
     // Whether the tree is grown from the root leaf by splits and holds what a tree may hold.
     pub fn grown(self) -> bool
         ensures { result ≡ grown_of self }
     {
-        inner::links::grown(self)
+        inner::links::grown(&self)
     }
 
     // The cube of a node.
-    pub fn domain(self, node: u16) -> Domain
+    #[tactic(auto, unfolding(crate::specs::Calls::domain_of))]
+    pub fn domain(self, node: u16) -> Result<Cube, Refusal>
         ensures { result ≡ domain_of self node }
     {
-        if inner::links::grown(self) {
-            if inner::change::is_node(self, node) {
-                let cube = inner::cubes::domain(self, node);
-                return Domain::Of(cube);
-            }
-            return Domain::Refused(refusal::NO_LEAF);
+        let t = Grown::of(&self)?;
+        if !inner::change::is_node(&self, node) {
+            return Err(Refusal::NoLeaf);
         }
-        Domain::Refused(refusal::NOT_GROWN)
+        Ok(t.domain(node))
     }
 
     // The action of the leaf that holds p, and how many cubes were tested: the root, then children in order up to the one that holds p.
+    #[tactic(auto, using(crate::proofs::Looking::opened_grown, crate::proofs::Looking::opened_refused))]
     pub fn action(self, p: Point) -> Lookup
         ensures { result ≡ opened_of self p }
     {
-        if inner::links::grown(self) {
-            return inner::walk::opened(self, p);
-        }
-        Lookup {
-            found: Looked::Refused(refusal::NOT_GROWN),
-            tested: 0,
+        match Grown::of(&self) {
+            Ok(t) => Rules::of(t).opened(p),
+            Err(refused) => Lookup {
+                found: Err(refused),
+                tested: 0,
+            },
         }
     }
 
-    // One more for the leaf that holds p.
-    pub fn tally(self, counts: &mut [u64], p: Point) -> Tallied
+    // One more for the leaf that holds p: that leaf, or none outside the box.
+    #[tactic(auto, unfolding(crate::specs::Calls::tally_of))]
+    pub fn tally(self, counts: &mut [u64], p: Point) -> Result<Option<u16>, Refusal>
         ensures { (result ≡ tally_of self counts.old p) × (counts.new ≡ counted_in counts.old (tally_of self counts.old p)) }
     {
-        if inner::links::grown(self) {
-            if inner::counts::counts_hold(self, counts) {
-                return inner::walk::tallied(self, counts, p);
-            }
-            return Tallied::Refused(refusal::BAD_COUNTS);
-        }
-        Tallied::Refused(refusal::NOT_GROWN)
+        let t = Grown::of(&self)?;
+        t.counts(counts)?;
+        t.tallied(counts, p)
     }
 
-    pub fn set_action(self, leaf: u16, action: Action) -> Changed
+    #[tactic(auto, unfolding(crate::specs::Calls::set_of))]
+    pub fn set_action(self, leaf: u16, action: Action) -> Result<RuleTree, Refusal>
         ensures { result ≡ set_of self leaf action }
     {
-        if inner::links::grown(self) {
-            if inner::change::is_leaf(self, leaf) {
-                if action.valid() {
-                    let tree = inner::change::with_action(self, leaf, action);
-                    return Changed { refused: 0, tree };
-                }
-                return Changed {
-                    refused: refusal::NOT_ADMITTED,
-                    tree: self,
-                };
-            }
-            return Changed {
-                refused: refusal::NO_LEAF,
-                tree: self,
-            };
+        Grown::of(&self)?.leaf(leaf)?;
+        if !action.valid() {
+            return Err(Refusal::NotAdmitted);
         }
-        Changed {
-            refused: refusal::NOT_GROWN,
-            tree: self,
-        }
+        Ok(inner::change::with_action(self, leaf, action))
     }
 
-    pub fn mark_optimized(self, leaf: u16) -> Changed
+    #[tactic(auto, unfolding(crate::specs::Calls::mark_of))]
+    pub fn mark_optimized(self, leaf: u16) -> Result<RuleTree, Refusal>
         ensures { result ≡ mark_of self leaf }
     {
-        if inner::links::grown(self) {
-            if inner::change::is_leaf(self, leaf) {
-                let tree = inner::change::with_mark(self, leaf);
-                return Changed { refused: 0, tree };
-            }
-            return Changed {
-                refused: refusal::NO_LEAF,
-                tree: self,
-            };
-        }
-        Changed {
-            refused: refusal::NOT_GROWN,
-            tree: self,
-        }
+        Grown::of(&self)?.leaf(leaf)?;
+        Ok(inner::change::with_mark(self, leaf))
     }
 
-    pub fn mark_all_unoptimized(self) -> Changed
+    #[tactic(auto, unfolding(crate::specs::Calls::clear_of))]
+    pub fn mark_all_unoptimized(self) -> Result<RuleTree, Refusal>
         ensures { result ≡ clear_of self }
     {
-        if inner::links::grown(self) {
-            let tree = inner::change::without_marks(self);
-            return Changed { refused: 0, tree };
-        }
-        Changed {
-            refused: refusal::NOT_GROWN,
-            tree: self,
-        }
+        Grown::of(&self)?;
+        Ok(inner::change::without_marks(self))
     }
 
-    pub fn split(self, leaf: u16) -> Changed
+    #[tactic(auto, unfolding(crate::specs::Calls::split_of))]
+    pub fn split(self, leaf: u16) -> Result<RuleTree, Refusal>
         ensures { result ≡ split_of self leaf }
     {
-        if inner::links::grown(self) {
-            if inner::change::is_leaf(self, leaf) {
-                if self.splits < MOST_SPLITS {
-                    let tree = inner::change::split_at(self, leaf);
-                    return Changed { refused: 0, tree };
-                }
-                return Changed {
-                    refused: refusal::FULL_TREE,
-                    tree: self,
-                };
-            }
-            return Changed {
-                refused: refusal::NO_LEAF,
-                tree: self,
-            };
+        Grown::of(&self)?.leaf(leaf)?;
+        if self.splits == MOST_SPLITS {
+            return Err(Refusal::FullTree);
         }
-        Changed {
-            refused: refusal::NOT_GROWN,
-            tree: self,
-        }
+        Ok(inner::change::split_at(self, leaf))
     }
 
     // The newest split taken back: its parent is a leaf again, with the action and mark that it had when split.
-    pub fn undo_split(self) -> Changed
+    #[tactic(auto, unfolding(crate::specs::Calls::undo_of))]
+    pub fn undo_split(self) -> Result<RuleTree, Refusal>
         ensures { result ≡ undo_of self }
     {
-        if inner::links::grown(self) {
-            if self.splits > 0 {
-                let tree = inner::change::undo(self);
-                return Changed { refused: 0, tree };
-            }
-            return Changed {
-                refused: refusal::NO_SPLIT,
-                tree: self,
-            };
+        Grown::of(&self)?;
+        if self.splits == 0 {
+            return Err(Refusal::NoSplit);
         }
-        Changed {
-            refused: refusal::NOT_GROWN,
-            tree: self,
-        }
+        Ok(inner::change::undo(self))
     }
 
-    pub fn num_parents(self) -> Number
+    #[tactic(auto, unfolding(crate::specs::Calls::parents_of))]
+    pub fn num_parents(self) -> Result<u32, Refusal>
         ensures { result ≡ parents_of self }
     {
-        if inner::links::grown(self) {
-            return Number::Of(inner::links::num_parents(self));
-        }
-        Number::Refused(refusal::NOT_GROWN)
+        Grown::of(&self)?;
+        Ok(inner::links::num_parents(&self))
     }
 
-    pub fn num_used_rules(self, counts: &[u64]) -> Number
+    #[tactic(auto, unfolding(crate::specs::Calls::used_of))]
+    pub fn num_used_rules(self, counts: &[u64]) -> Result<u32, Refusal>
         ensures { result ≡ used_of self counts.now }
     {
-        if inner::links::grown(self) {
-            if inner::counts::counts_hold(self, counts) {
-                return Number::Of(inner::counts::used(counts));
-            }
-            return Number::Refused(refusal::BAD_COUNTS);
-        }
-        Number::Refused(refusal::NOT_GROWN)
+        Grown::of(&self)?.counts(counts)?;
+        Ok(inner::counts::used(counts))
     }
 
-    pub fn most_used_rule(self, counts: &[u64]) -> Chosen
+    // The leaf with the greatest count, none where no leaf is asked for.
+    #[tactic(auto, unfolding(crate::specs::Calls::most_used_of))]
+    fn most_used(self, counts: &[u64], unmarked: bool) -> Result<Option<u16>, Refusal>
+        ensures { result ≡ most_used_of unmarked self counts.now }
+    {
+        Grown::of(&self)?.counts(counts)?;
+        Ok(inner::counts::most_used(&self, counts, unmarked))
+    }
+
+    pub fn most_used_rule(self, counts: &[u64]) -> Result<Option<u16>, Refusal>
         ensures { result ≡ most_used_of false self counts.now }
     {
-        if inner::links::grown(self) {
-            if inner::counts::counts_hold(self, counts) {
-                return inner::counts::most_used(self, counts, false);
-            }
-            return Chosen::Refused(refusal::BAD_COUNTS);
-        }
-        Chosen::Refused(refusal::NOT_GROWN)
+        self.most_used(counts, false)
     }
 
-    pub fn most_used_unoptimized_rule(self, counts: &[u64]) -> Chosen
+    pub fn most_used_unoptimized_rule(self, counts: &[u64]) -> Result<Option<u16>, Refusal>
         ensures { result ≡ most_used_of true self counts.now }
     {
-        if inner::links::grown(self) {
-            if inner::counts::counts_hold(self, counts) {
-                return inner::counts::most_used(self, counts, true);
-            }
-            return Chosen::Refused(refusal::BAD_COUNTS);
-        }
-        Chosen::Refused(refusal::NOT_GROWN)
+        self.most_used(counts, true)
     }
 
-    // Equal cubes and actions all the way down, marks left out.
-    pub fn equals(self, other: RuleTree) -> Compared
+    // Equal cubes and actions all the way down, marks left out. A call and no ==, since a tree that is not grown is refused.
+    #[tactic(auto, unfolding(crate::specs::Calls::equal_of))]
+    pub fn equals(self, other: RuleTree) -> Result<bool, Refusal>
         ensures { result ≡ equal_of self other }
     {
-        if inner::links::grown(self) {
-            if inner::links::grown(other) {
-                return Compared::Same(inner::equal::equal(self, other));
-            }
-        }
-        Compared::Refused(refusal::NOT_GROWN)
+        Grown::of(&self)?;
+        Grown::of(&other)?;
+        Ok(inner::equal::equal(&self, &other))
     }
 }

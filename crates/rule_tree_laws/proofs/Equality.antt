@@ -1,22 +1,42 @@
 -- Equality of trees: marks don't count, and a grown tree equals itself. Assumes nothing.
 use mathlib.Core.Path.{◌≡◌, refl}
-use mathlib.Core.Bool.{Bool, true, false, cond}
+use mathlib.Core.Bool.{Bool, true, false, cond, ◌&&◌}
 use mathlib.Core.List.{List, [], ◌∷◌, map}
-use Prim.Native.Nat.{ℕ, zero, suc}
+use Prim.Native.Nat.{ℕ, zero, suc, ◌+◌}
 use native.Mathlib.Omega.{arith}
 use lib.Dec.{eqb}
 use lib.ListN.{set}
-use Rattle.remy.specs.Cube.{root_of}
+use Rattle.remy.specs.declared.cube.Cube.{Cube}
+use Rattle.remy.specs.Cube.{child_cube, root_of}
 use Rattle.rule_tree.specs.declared.Node.{Node}
 use Rattle.rule_tree.specs.declared.RuleTree.{RuleTree}
 use Rattle.rule_tree.specs.Nodes.{node_at_of, action_in, node_holding}
 use Rattle.rule_tree.specs.Change.{with_mark, without_marks, unmarked_node}
 use Rattle.rule_tree.specs.Grown.{grown_of}
-use Rattle.rule_tree.specs.Equal.{trees_equal}
-use Rattle.rule_tree.proofs.EqualLevel.{Alike, AllAlike, same_fields}
+use Rattle.rule_tree.specs.Lists.{all_below}
+use Rattle.rule_tree.specs.Equal.{cube_equal, action_equal, node_equal, trees_equal}
 use Rattle.rule_tree.proofs.Links.{grown_splits, grown_admitted}
 use Rattle.rule_tree_laws.proofs.Slots.{grown_slot}
 use Rattle.rule_tree_laws.proofs.EqualSelf.{itself, root_rising}
+
+-- two nodes that differ in their marks alone, and lists of such
+record Alike (x y : Node) : Type 0 where
+  links : x.children ≡ y.children
+  actions : action_in x ≡ action_in y
+
+abbrev AllAlike : List Node → List Node → Type 0
+AllAlike s t = (k : ℕ) → Alike (node_at_of s k) (node_at_of t k)
+
+-- equality looks at links and actions alone
+same_fields : (n : ℕ) (s s' t t' : List Node) → AllAlike s s' → AllAlike t t' → (i j : ℕ) (c d : Cube) → node_equal n s t i j c d ≡ node_equal n s' t' i j c d
+unfolding node_equal
+same_fields zero s s' t t' p q i j c d = refl
+same_fields (suc n) s s' t t' p q i j c d =
+    λ z. cube_equal c d
+    && cond (eqb ((p i).links z) 0)
+    (cond (eqb ((q j).links z) 0) (action_equal ((p i).actions z) ((q j).actions z)) false)
+    (cond (eqb ((q j).links z) 0) false
+    (all_below 8 (λ k. same_fields n s s' t t' p q ((p i).links z + k) ((q j).links z + k) (child_cube c k) (child_cube d k) z)))
 
 alike_self : (x : Node) → Alike x x
 alike_self x = record { links = refl; actions = refl }

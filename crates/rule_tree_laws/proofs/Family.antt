@@ -2,19 +2,19 @@
 -- Assumes nothing.
 use mathlib.Core.Path.{◌≡◌, refl, sym, ap, ◌∙◌}
 use mathlib.Core.Bool.{true}
-use mathlib.Core.Logic.{◌⊎◌, inl, inr, ⊎_elim}
+use mathlib.Core.Logic.{⊎_elim}
 use mathlib.Core.List.{List}
-use Prim.Native.Nat.{ℕ, zero, suc, ◌+◌, ◌-◌, ◌*◌, ◌/◌, ◌%◌, ◌<◌, ◌≤◌}
+use Prim.Native.Nat.{ℕ, ◌+◌, ◌-◌, ◌*◌, ◌/◌, ◌%◌, ◌<◌, ◌≤◌}
 use native.Mathlib.Omega.{arith}
 use lib.ListN.{get_or, length}
 use Rattle.remy.specs.declared.cube.Cube.{Cube}
 use Rattle.remy.specs.Cube.{child_cube}
 use Rattle.rule_tree.specs.Nodes.{node_count}
 use Rattle.rule_tree.specs.Grown.{linked_of}
-use Rattle.rule_tree.specs.Cubes.{owner_below, split_nodes, cube_at}
+use Rattle.rule_tree.specs.Cubes.{owner_below, split_nodes, Before, cube_at}
 use Rattle.rule_tree.proofs.Lists.{get_d_tabulate}
 use Rattle.rule_tree.proofs.Owners.{Once, once_of, owner_found, owner_is}
-use Rattle.rule_tree.proofs.CubeSteps.{Low, root_cube, child_step}
+use Rattle.rule_tree.proofs.CubeSteps.{root_cube, child_step}
 use Rattle.rule_tree.proofs.Links.{Link}
 use Rattle.rule_tree.proofs.Walking.{links_parent, linked_few, linked_links, linked_owners}
 
@@ -65,7 +65,7 @@ module _ (cs : List ℕ) (s : ℕ) (h : linked_of cs s ≡ true) (n : length cs 
       ∙ owner_is 513 cs (8 * k + 1) i b e (λ j m q. o.only j (omega arith) q ∙ sym (o.only i (omega arith) e))
 
   -- the node of a split comes before the nodes that the split added
-  pub split_low : Low (split_nodes cs)
+  pub split_low : Before (split_nodes cs)
   split_low k l =
       let e : get_or (split_nodes cs) k 0 ≡ owner_below 513 cs (8 * k + 1) = get_d_tabulate 64 k (λ m. owner_below 513 cs (8 * m + 1)) 0 l in
       ⊎_elim (λ (z : owner_below 513 cs (8 * k + 1) ≡ 0). omega arith)
@@ -108,10 +108,6 @@ cube_in cs root i = cube_at i (split_nodes cs) root i
 
 pub cube_root : (cs : List ℕ) (root : Cube) → cube_in cs root 0 ≡ root
 cube_root cs root = root_cube 0 (split_nodes cs) root 0 refl
-
-pub nought_or_more : (n : ℕ) → (n ≡ 0) ⊎ (0 < n)
-nought_or_more zero = inl refl
-nought_or_more (suc n) = inr (omega arith)
 
 -- a child's cube is the child's part of its parent's cube
 pub cube_child : (cs : List ℕ) (s : ℕ) → linked_of cs s ≡ true → length cs ≡ 513 → (root : Cube) (i k j : ℕ)

@@ -5,6 +5,7 @@ use mathlib.Core.Bool.{Bool, true, false}
 use mathlib.Core.Logic.{⊎_elim}
 use mathlib.Core.List.{List}
 use Prim.Native.Nat.{ℕ, zero, suc, ◌+◌, ◌-◌, ◌*◌, ◌/◌, ◌<◌, ◌≤◌}
+use native.Mathlib.Nat.{eq-zero-or-pos}
 use native.Mathlib.Omega.{arith}
 use lib.ListN.{get_or, length, length-map}
 use borrow.Author.Tests.{eq-eqb, ne_eqb}
@@ -14,19 +15,20 @@ use Rattle.remy.specs.Cube.{contains_of, child_cube, place_of_point, root_of, Wh
 use Rattle.remy.proofs.Partition.{place_below}
 use Rattle.rule_tree.specs.declared.RuleTree.{RuleTree}
 use Rattle.rule_tree.specs.declared.Lookup.{Lookup}
-use Rattle.rule_tree.specs.declared.Looked.TheVariants.{Found, Nothing}
+use Rattle.std.specs.Prelude.{Ok, Some, None}
 use Rattle.rule_tree.specs.declared.inner.walk.Reached.{Reached}
 use Rattle.rule_tree.specs.Nodes.{node_at_of, children_of, node_count, slots, action_in}
 use Rattle.rule_tree.specs.Grown.{linked_of, grown_of}
-use Rattle.rule_tree.specs.Cubes.{split_nodes}
+use Rattle.rule_tree.specs.Cubes.{split_nodes, Before}
 use Rattle.rule_tree.specs.Walk.{walk_of, leaf_of}
 use Rattle.rule_tree.specs.Calls.{found_in, tested_in, opened_in, opened_of}
+use Rattle.rule_tree.proofs.Looking.{opened_grown}
 use Rattle.rule_tree.proofs.Plain.{PointFits}
-use Rattle.rule_tree.proofs.CubeSteps.{Low, parent_of}
+use Rattle.rule_tree.proofs.CubeSteps.{parent_of}
 use Rattle.rule_tree.proofs.Links.{Link, grown_linked, grown_whole}
 use Rattle.rule_tree.proofs.Walking.{eight_inside, On, at_root, at_leaf, step, descent, linked_few, linked_links}
 pub use Rattle.rule_tree_laws.specs.Opened.{depth_at, depth_in, depth_of}
-use Rattle.rule_tree_laws.proofs.Family.{Child, child_of, parent_is, split_low, nought_or_more}
+use Rattle.rule_tree_laws.proofs.Family.{Child, child_of, parent_is, split_low}
 use Rattle.rule_tree_laws.proofs.Partition.{grown_one_leaf, grown_none, tested_few}
 
 -- ---- depth does not depend on the fuel, and a child is one split deeper than its parent
@@ -39,7 +41,7 @@ step_depth : (d : ℕ) (ps : List ℕ) (i : ℕ) → 0 < i → depth_at (suc d) 
 unfolding depth_at
 step_depth d ps i l = rw (ne_eqb i 0 (λ z. absurd (omega (arith, z))))
 
-module _ (ps : List ℕ) (low : Low ps) where
+module _ (ps : List ℕ) (low : Before ps) where
   before : (i : ℕ) → i < slots → 0 < i → parent_of ps i < i
   before i b l = omega (arith, low ((i - 1) / 8) (omega arith))
 
@@ -51,7 +53,7 @@ module _ (ps : List ℕ) (low : Low ps) where
       (λ (l : 0 < i).
       let k : parent_of ps i < i = before i b l in
       step_depth d ps i l ∙ ap suc (fuel d e (parent_of ps i) (omega arith) (omega arith) (omega arith)) ∙ sym (step_depth e ps i l))
-      (nought_or_more i)
+      (eq-zero-or-pos i)
 
   one_deeper : (i : ℕ) → i < slots → 0 < i → depth_at i ps i ≡ suc (depth_at (parent_of ps i) ps (parent_of ps i))
   one_deeper i b l =
@@ -103,9 +105,9 @@ module _ (cs : List ℕ) (s : ℕ) (h : linked_of cs s ≡ true) (n : length cs 
         (at_leaf cs root p d.cube d.node c.tested c.on d.leaf) c.deep
 
 -- ---- the calls
-opened_grown : (t : RuleTree) (p : Point) → grown_of t ≡ true → opened_of t p ≡ record { found = found_in t p; tested = tested_in t p }
-unfolding opened_of opened_in
-opened_grown t p g = rw g
+found_opened : (t : RuleTree) (p : Point) → grown_of t ≡ true → opened_of t p ≡ record { found = Ok (found_in t p); tested = tested_in t p }
+unfolding opened_in
+found_opened t p g = sym (opened_grown t p g)
 
 tested_inside : (t : RuleTree) (p : Point) → contains_of (root_of t.ends) p ≡ true → tested_in t p ≡ (walk_of (children_of t.nodes) (root_of t.ends) p).tested
 unfolding tested_in
@@ -118,15 +120,15 @@ tested_outside t p e = rw e
 module _ (t : RuleTree) (g : grown_of t ≡ true) (n : length t.nodes ≡ 513) (f : PointFits t.ends) (p : Point) where
   -- "The number equals the walk's in the definition"
   pub opened_inside : contains_of (root_of t.ends) p ≡ true
-      → opened_of t p ≡ record { found = Found (action_in (node_at_of t.nodes (leaf_of t p))); tested = (walk_of (children_of t.nodes) (root_of t.ends) p).tested }
+      → opened_of t p ≡ record { found = Ok (Some (action_in (node_at_of t.nodes (leaf_of t p)))); tested = (walk_of (children_of t.nodes) (root_of t.ends) p).tested }
   opened_inside e =
-      opened_grown t p g
-      ∙ (λ j. record { found = (grown_one_leaf t g n f p e).found j; tested = tested_inside t p e j })
+      found_opened t p g
+      ∙ (λ j. record { found = Ok ((grown_one_leaf t g n f p e).found j); tested = tested_inside t p e j })
 
   -- "An outside point counts 1"
-  pub opened_outside : contains_of (root_of t.ends) p ≡ false → opened_of t p ≡ record { found = Nothing; tested = 1 }
+  pub opened_outside : contains_of (root_of t.ends) p ≡ false → opened_of t p ≡ record { found = Ok None; tested = 1 }
   opened_outside e =
-      opened_grown t p g ∙ (λ j. record { found = (grown_none t g n f p e).nothing j; tested = tested_outside t p e j })
+      found_opened t p g ∙ (λ j. record { found = Ok ((grown_none t g n f p e).nothing j); tested = tested_outside t p e j })
 
   tested_is : contains_of (root_of t.ends) p ≡ true → (opened_of t p).tested ≡ (walk_of (children_of t.nodes) (root_of t.ends) p).tested
   tested_is e = ap (λ (l : Lookup). l.tested) (opened_inside e)

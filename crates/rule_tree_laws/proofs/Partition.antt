@@ -5,6 +5,7 @@ use mathlib.Core.Bool.{Bool, true, false}
 use mathlib.Core.Logic.{⊎_elim}
 use mathlib.Core.List.{List}
 use Prim.Native.Nat.{ℕ, zero, suc, ◌+◌, ◌<◌, ◌≤◌}
+use native.Mathlib.Nat.{eq-zero-or-pos}
 use native.Mathlib.Omega.{arith}
 use lib.Ieee.{Float, nan}
 use lib.ListN.{get_or, length, length-map}
@@ -17,7 +18,7 @@ use Rattle.remy.proofs.Partition.{whole_child, whole_root, child_inside, place_o
 use Rattle.remy.proofs.Lens.{nan_ack, nan_send, nan_ratio}
 use Rattle.rule_tree.specs.declared.Node.{Node}
 use Rattle.rule_tree.specs.declared.RuleTree.{RuleTree}
-use Rattle.rule_tree.specs.declared.Looked.TheVariants.{Found, Nothing}
+use Rattle.std.specs.Prelude.{Ok, Some, None}
 use Rattle.rule_tree.specs.declared.inner.walk.Reached.{Reached}
 use Rattle.rule_tree.specs.Nodes.{node_at_of, children_of, node_count, is_leaf_of, action_in}
 use Rattle.rule_tree.specs.Grown.{linked_of, grown_of}
@@ -28,7 +29,7 @@ use Rattle.rule_tree.proofs.Plain.{PointFits}
 use Rattle.rule_tree.proofs.Links.{Link, grown_linked, grown_whole}
 use Rattle.rule_tree.proofs.Walking.{eight_inside, On, at_root, at_leaf, step, links_parent, descent, walk_leaf, linked_few, linked_links}
 pub use Rattle.rule_tree_laws.specs.Leaves.{InOneLeaf, InNone}
-use Rattle.rule_tree_laws.proofs.Family.{Child, child_of, born, cube_in, cube_root, cube_child, nought_or_more}
+use Rattle.rule_tree_laws.proofs.Family.{Child, child_of, born, cube_in, cube_root, cube_child}
 
 -- node j, whose cube holds p, is on the walk from the root
 record Way (cs : List ℕ) (root : Cube) (p : Point) (j : ℕ) : Type 0 where
@@ -54,7 +55,7 @@ module _ (cs : List ℕ) (s : ℕ) (h : linked_of cs s ≡ true) (n : length cs 
       let f = b.child.later in
       subst Whole (sym (cube_child cs s h n root b.mother b.place j l b.child))
       (whole_child (cube_in cs root b.mother) (whole_from m b.mother (omega arith) (omega arith)) b.place))
-      (nought_or_more j)
+      (eq-zero-or-pos j)
 
   -- every node's cube can be halved again
   pub node_whole : (j : ℕ) → j < node_count s → Whole (cube_in cs root j)
@@ -95,7 +96,7 @@ module _ (cs : List ℕ) (s : ℕ) (h : linked_of cs s ≡ true) (n : length cs 
         let c : contains_of (child_cube (cube_in cs root q) b.place) p ≡ true = ap (λ (x : Cube). contains_of x p) (sym (cube_child cs s h n root q b.place j l b.child)) ∙ e in
         way_child q b.place j l b.child c
         (way_from m q (omega arith) (omega arith) (child_inside (cube_in cs root q) (node_whole q (omega arith)) p b.place c)))
-        (nought_or_more j)
+        (eq-zero-or-pos j)
 
     way : (j : ℕ) → j < node_count s → contains_of (cube_in cs root j) p ≡ true → Way cs root p j
     way j l e = way_from j j (omega arith) l e
@@ -146,15 +147,15 @@ leaf_link nodes i e = children_at nodes i ∙ eqb-true (node_at_of nodes i).chil
 link_leaf : (nodes : List Node) (i : ℕ) → get_or (children_of nodes) i 0 ≡ 0 → is_leaf_of nodes i ≡ true
 link_leaf nodes i e = eq-eqb (node_at_of nodes i).children 0 (sym (children_at nodes i) ∙ e)
 
-found_inside : (t : RuleTree) (p : Point) → contains_of (root_of t.ends) p ≡ true → found_in t p ≡ Found (action_in (node_at_of t.nodes (leaf_of t p)))
+found_inside : (t : RuleTree) (p : Point) → contains_of (root_of t.ends) p ≡ true → found_in t p ≡ Some (action_in (node_at_of t.nodes (leaf_of t p)))
 unfolding found_in
 found_inside t p e = rw e
 
-found_outside : (t : RuleTree) (p : Point) → contains_of (root_of t.ends) p ≡ false → found_in t p ≡ Nothing
+found_outside : (t : RuleTree) (p : Point) → contains_of (root_of t.ends) p ≡ false → found_in t p ≡ None
 unfolding found_in
 found_outside t p e = rw e
 
-looked_up : (t : RuleTree) (p : Point) → grown_of t ≡ true → lookup_of t p ≡ found_in t p
+pub looked_up : (t : RuleTree) (p : Point) → grown_of t ≡ true → lookup_of t p ≡ Ok (found_in t p)
 unfolding lookup_of
 looked_up t p g = rw g
 
@@ -192,11 +193,11 @@ module _ (t : RuleTree) (g : grown_of t ≡ true) (n : length t.nodes ≡ 513) (
   pub grown_none : contains_of (root_of t.ends) p ≡ false → InNone t p
   grown_none e = in_none t p (grown_linked t g) n (grown_whole t g f) e
 
-  pub lookup_found : contains_of (root_of t.ends) p ≡ true → lookup_of t p ≡ Found (action_in (node_at_of t.nodes (leaf_of t p)))
-  lookup_found e = looked_up t p g ∙ (grown_one_leaf e).found
+  pub lookup_found : contains_of (root_of t.ends) p ≡ true → lookup_of t p ≡ Ok (Some (action_in (node_at_of t.nodes (leaf_of t p))))
+  lookup_found e = looked_up t p g ∙ ap Ok (grown_one_leaf e).found
 
-  pub lookup_nothing : contains_of (root_of t.ends) p ≡ false → lookup_of t p ≡ Nothing
-  lookup_nothing e = looked_up t p g ∙ (grown_none e).nothing
+  pub lookup_nothing : contains_of (root_of t.ends) p ≡ false → lookup_of t p ≡ Ok None
+  lookup_nothing e = looked_up t p g ∙ ap Ok (grown_none e).nothing
 
   -- what a search in order tests on the way: at most one cube for each node up to the leaf
   pub tested_few : contains_of (root_of t.ends) p ≡ true
@@ -208,7 +209,7 @@ module _ (t : RuleTree) (g : grown_of t ≡ true) (n : length t.nodes ≡ 513) (
 
 -- NaN finds nothing
 pub nan_finds_nothing : (t : RuleTree) (x y : Float)
-    → (found_in t (point_of nan x y) ≡ Nothing) × ((found_in t (point_of x nan y) ≡ Nothing) × (found_in t (point_of x y nan) ≡ Nothing))
+    → (found_in t (point_of nan x y) ≡ None) × ((found_in t (point_of x nan y) ≡ None) × (found_in t (point_of x y nan) ≡ None))
 nan_finds_nothing t x y = (
   found_outside t (point_of nan x y) (nan_ack (root_of t.ends) x y),
   (found_outside t (point_of x nan y) (nan_send (root_of t.ends) x y), found_outside t (point_of x y nan) (nan_ratio (root_of t.ends) x y)),

@@ -5,6 +5,7 @@ use mathlib.Core.Bool.{Bool, true, false}
 use mathlib.Core.Logic.{inl, ⊎_elim, ◌≢◌}
 use mathlib.Core.List.{List}
 use Prim.Native.Nat.{ℕ, zero, suc, ◌+◌, ◌*◌, ◌<◌, ◌≤◌}
+use native.Mathlib.Nat.{eq-zero-or-pos}
 use native.Mathlib.Omega.{arith}
 use lib.Dec.{eqb}
 use lib.ListN.{get_or, length}
@@ -14,7 +15,7 @@ use Rattle.remy.specs.Cube.{contains_of, child_cube, place_of_point, root_of, Wh
 use Rattle.remy.proofs.Partition.{place_below, place_holds}
 use Rattle.rule_tree.specs.declared.Node.{Node}
 use Rattle.rule_tree.specs.declared.RuleTree.{RuleTree}
-use Rattle.rule_tree.specs.declared.Looked.TheVariants.{Found}
+use Rattle.std.specs.Prelude.{Some}
 use Rattle.rule_tree.specs.Nodes.{node_at_of, children_of, node_count, action_in}
 use Rattle.rule_tree.specs.Grown.{linked_of, grown_of}
 use Rattle.rule_tree.specs.Cubes.{cube_of}
@@ -28,7 +29,7 @@ use Rattle.rule_tree.proofs.Plain.{PointFits}
 use Rattle.rule_tree.proofs.GrownTree.{leaf_below, leaf_childless}
 use Rattle.rule_tree.proofs.Changing.{split_length, split_splits, split_ends, split_child, split_other, split_old_leaf}
 use Rattle.rule_tree_laws.proofs.SplitLinks.{links_513, after_513, old_link, new_link, split_linked}
-use Rattle.rule_tree_laws.proofs.Family.{Child, child_of, born, cube_in, cube_root, cube_child, nought_or_more}
+use Rattle.rule_tree_laws.proofs.Family.{Child, child_of, born, cube_in, cube_root, cube_child}
 use Rattle.rule_tree_laws.proofs.Partition.{node_whole, InOneLeaf, in_one_leaf, in_none}
 
 -- ---- a list of links, and another that has the same links but for a leaf i
@@ -52,7 +53,7 @@ module _
         cube_child ds r k m root q b.place j (omega arith) v
         ∙ ap (λ (x : Cube). child_cube x b.place) (kept_from d q (omega arith) (omega arith))
         ∙ sym (cube_child cs s h n root q b.place j l c))
-        (nought_or_more j)
+        (eq-zero-or-pos j)
 
     -- the nodes of before keep their cubes
     cubes_same : (j : ℕ) → j < node_count s → cube_in ds root j ≡ cube_in cs root j
@@ -136,12 +137,12 @@ module _ (t : RuleTree) (i : ℕ) (n : length t.nodes ≡ 513) (g : linked_of (c
         ∙ ⊎_elim
         (λ (o : leaf_of t p ≡ i).
         let k = place_of_point (cube_of t i) p in
-        ap (λ (j : ℕ). Found (action_in (node_at_of (split_at_of t i).nodes j))) (reach_split o)
-        ∙ ap (λ (x : Node). Found (action_in x)) (split_child t i (omega arith) k (place_below (cube_of t i) p))
-        ∙ ap (λ (j : ℕ). Found (action_in (node_at_of t.nodes j))) (sym o))
+        ap (λ (j : ℕ). Some (action_in (node_at_of (split_at_of t i).nodes j))) (reach_split o)
+        ∙ ap (λ (x : Node). Some (action_in x)) (split_child t i (omega arith) k (place_below (cube_of t i) p))
+        ∙ ap (λ (j : ℕ). Some (action_in (node_at_of t.nodes j))) (sym o))
         (λ (o : leaf_of t p ≢ i).
-        ap (λ (j : ℕ). Found (action_in (node_at_of (split_at_of t i).nodes j))) (reach_other o)
-        ∙ ap (λ (x : Node). Found (action_in x)) (split_other t i (leaf_of t p) o (inl reached.node)))
+        ap (λ (j : ℕ). Some (action_in (node_at_of (split_at_of t i).nodes j))) (reach_other o)
+        ∙ ap (λ (x : Node). Some (action_in x)) (split_other t i (leaf_of t p) o (inl reached.node)))
         (same_or_not (leaf_of t p) i)
         ∙ sym reached.found
 

@@ -1,9 +1,10 @@
--- A refused start hands back a tree that the test for 10 refuses, so that a caller who does not look is refused next. Assumes nothing.
+-- A refused start gives no tree, and the tree with an empty box is refused by the test for 10. Assumes nothing.
 use mathlib.Core.Path.{◌≡◌, refl}
 use mathlib.Core.Bool.{Bool, true, false, ◌&&◌}
 use Prim.Native.Nat.{ℕ}
 use native.Mathlib.Omega.{arith}
 use lib.Ieee.{le}
+use Rattle.std.specs.Result.{IsErr}
 use Rattle.remy.specs.declared.action.Action.{Action}
 use Rattle.remy.specs.declared.point.Point.{Point}
 use Rattle.remy.specs.Action.{valid_of}
@@ -23,11 +24,11 @@ blank_refused = go (grown_of blank_tree) refl
     go true g = absurd (let e = grown_ends_hold blank_tree g in let n = no_box in let z : ◌≡◌ {A = ℕ} 0 1 = cc in omega arith)
     go false g = refl
 
-pub refused_start : (e : Point) (a : Action) → ends_hold e && valid_of a ≡ false → grown_of (new_of e a).tree ≡ false
+pub refused_start : (e : Point) (a : Action) → ends_hold e && valid_of a ≡ false → IsErr (new_of e a)
 unfolding new_of
 refused_start e a v = go (ends_hold e) (valid_of a) refl refl v
   where
-    go : (b c : Bool) → ends_hold e ≡ b → valid_of a ≡ c → b && c ≡ false → grown_of (new_of e a).tree ≡ false
-    go true true p q r = absurd (let z : ◌≡◌ {A = ℕ} 0 1 = cc in omega arith)
-    go true false p q r = rw (p, q) blank_refused
-    go false c p q r = rw p blank_refused
+    go : (b c : Bool) → ends_hold e ≡ b → valid_of a ≡ c → b && c ≡ false → IsErr (new_of e a)
+    go true true p q r = cc
+    go true false p q r = rw (p, q) refl
+    go false c p q r = rw p refl

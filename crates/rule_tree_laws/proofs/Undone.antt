@@ -17,7 +17,8 @@ use Rattle.rule_tree.specs.declared.RuleTree.{RuleTree}
 use Rattle.rule_tree.specs.Nodes.{no_node, node_at_of, node_count, no_action, leaf_with, linked_to, action_in}
 use Rattle.rule_tree.specs.Grown.{grown_of}
 use Rattle.rule_tree.specs.Change.{split_at_of, newest_parent, undone}
-use Rattle.rule_tree.specs.Calls.{leaf_in, taken, split_of, undo_of}
+use Rattle.std.specs.Prelude.{Ok}
+use Rattle.rule_tree.specs.Calls.{leaf_in, split_of, undo_of}
 use Rattle.rule_tree.proofs.Owners.{same_or_not}
 use Rattle.rule_tree.proofs.Plain.{ActionFits, PointFits}
 use Rattle.rule_tree.proofs.Patched.{Place, new, here, other, place}
@@ -137,13 +138,13 @@ module _ (t : RuleTree) (i : ℕ) (f : TreeFits t) (g : grown_of t ≡ true) (l 
       (same_nodes 513 (undone (split_at_of t i)).nodes t.nodes (undo_length (split_at_of t i) ∙ full) f.full back)
 
   -- the same of the public calls
-  split_gives : (split_of t i).tree ≡ split_at_of t i
+  pub split_gives : split_of t i ≡ Ok (split_at_of t i)
   unfolding split_of
   split_gives = rw (g, l, lt-ltb _ _ r)
 
-  undo_gives : undo_of (split_at_of t i) ≡ taken t
+  undo_gives : undo_of (split_at_of t i) ≡ Ok t
   unfolding undo_of
   undo_gives = rw (grown, lt-ltb _ _ some, split_undone)
 
-  pub split_taken_back : undo_of (split_of t i).tree ≡ taken t
-  split_taken_back = ap undo_of split_gives ∙ undo_gives
+  pub split_taken_back : (u : RuleTree) → split_of t i ≡ Ok u → undo_of u ≡ Ok t
+  split_taken_back u e = let made : u ≡ split_at_of t i = cc split_gives in ap undo_of made ∙ undo_gives

@@ -6,13 +6,13 @@ use Prim.Native.Nat.{ℕ, ◌+◌, ◌<◌, ◌≤◌}
 use native.Mathlib.Omega.{arith}
 use lib.ListN.{length-map}
 use lib.Seq.{ext_get_or}
-use borrow.Author.Tests.{eq-eqb}
+use borrow.Author.Tests.{eq-eqb, both_ways}
 use Rattle.remy.specs.declared.point.Point.{Point}
 use Rattle.remy.specs.declared.cube.Cube.{Cube}
 use Rattle.remy.specs.Cube.{contains_of, root_of}
 use Rattle.rule_tree.specs.declared.Node.{Node}
 use Rattle.rule_tree.specs.declared.RuleTree.{RuleTree}
-use Rattle.rule_tree.specs.declared.Looked.TheVariants.{Found}
+use Rattle.std.specs.Prelude.{Some}
 use Rattle.rule_tree.specs.Nodes.{node_at_of, children_of, node_count, action_in}
 use Rattle.rule_tree.specs.Grown.{grown_of}
 use Rattle.rule_tree.specs.Cubes.{split_nodes, cube_at, cube_of}
@@ -30,9 +30,6 @@ use Rattle.rule_tree_laws.proofs.Sound.{TreeFits}
 use Rattle.rule_tree_laws.proofs.Partition.{grown_one_leaf, grown_none}
 use Rattle.rule_tree_laws.proofs.Splitting.{cubes_kept, reach_other}
 use Rattle.rule_tree_laws.proofs.Undone.{undo_fits, undo_leaf, resplit_old, resplit_new}
-
-clash : (b : Bool) → b ≡ true → b ≡ false → ⊥
-clash b p q = let z : ◌≡◌ {A = ℕ} 0 1 = cc in omega arith
 
 module _ (t : RuleTree) (f : TreeFits t) (g : grown_of t ≡ true) (s : 0 < t.splits) where
   abbrev before : RuleTree
@@ -89,21 +86,21 @@ module _ (t : RuleTree) (f : TreeFits t) (g : grown_of t ≡ true) (s : 0 < t.sp
     one e = grown_one_leaf before grown (undo_fits t f g s).full (undo_fits t f g s).ends x e
 
     -- in the parent's cube
-    pub undo_inside : contains_of (cube_of t (newest_parent t)) x ≡ true → found_in before x ≡ Found (action_in (node_at_of t.nodes (newest_parent t)))
+    pub undo_inside : contains_of (cube_of t (newest_parent t)) x ≡ true → found_in before x ≡ Some (action_in (node_at_of t.nodes (newest_parent t)))
     undo_inside h = go (contains_of (root_of before.ends) x) refl
       where
         holds : contains_of (cube_of before (newest_parent t)) x ≡ true
         holds = ap (λ (c : Cube). contains_of c x) (undo_cube (newest_parent t) in_use) ∙ h
 
-        go : (b : Bool) → contains_of (root_of before.ends) x ≡ b → found_in before x ≡ Found (action_in (node_at_of t.nodes (newest_parent t)))
+        go : (b : Bool) → contains_of (root_of before.ends) x ≡ b → found_in before x ≡ Some (action_in (node_at_of t.nodes (newest_parent t)))
         go true e =
             (one e).found
-            ∙ ap (λ (j : ℕ). Found (action_in (node_at_of before.nodes j)))
+            ∙ ap (λ (j : ℕ). Some (action_in (node_at_of before.nodes j)))
             (sym ((one e).only (newest_parent t) in_use (eq-eqb _ 0 (leaf_childless before (newest_parent t) (undo_leaf t f g s))) holds))
-            ∙ ap (λ (y : Node). Found (action_in y)) (undo_parent t f.full g s)
+            ∙ ap (λ (y : Node). Some (action_in y)) (undo_parent t f.full g s)
         go false e =
-            absurd (clash _ holds
-            ((grown_none before grown (undo_fits t f g s).full (undo_fits t f g s).ends x e).none (newest_parent t) in_use))
+            absurd
+            (both_ways _ ((grown_none before grown (undo_fits t f g s).full (undo_fits t f g s).ends x e).none (newest_parent t) in_use) holds)
 
     -- elsewhere
     pub undo_outside : contains_of (cube_of t (newest_parent t)) x ≡ false → found_in before x ≡ found_in t x
@@ -111,8 +108,9 @@ module _ (t : RuleTree) (f : TreeFits t) (g : grown_of t ≡ true) (s : 0 < t.sp
       where
         aside : (e : contains_of (root_of before.ends) x ≡ true) → leaf_of before x ≡ newest_parent t → ⊥
         aside e z =
-            clash _ (one e).inside
+            both_ways _
             (ap (λ (j : ℕ). contains_of (cube_of before j) x) z ∙ ap (λ (c : Cube). contains_of c x) (undo_cube (newest_parent t) in_use) ∙ h)
+            (one e).inside
 
         go : (b : Bool) → contains_of (root_of before.ends) x ≡ b → found_in before x ≡ found_in t x
         go true e =
@@ -120,8 +118,8 @@ module _ (t : RuleTree) (f : TreeFits t) (g : grown_of t ≡ true) (s : 0 < t.sp
             let r = reach_other before (newest_parent t) (undo_fits t f g s).full (grown_linked before grown) (undo_leaf t f g s) room w x e (aside e) in
             let b = (one e).node in
             (one e).found
-            ∙ ap (λ (y : Node). Found (action_in y)) (undo_other t f.full g s (leaf_of before x) (aside e) (inl (omega (arith, undo_splits t))))
-            ∙ ap (λ (j : ℕ). Found (action_in (node_at_of t.nodes j))) (sym r ∙ again_leaf x)
+            ∙ ap (λ (y : Node). Some (action_in y)) (undo_other t f.full g s (leaf_of before x) (aside e) (inl (omega (arith, undo_splits t))))
+            ∙ ap (λ (j : ℕ). Some (action_in (node_at_of t.nodes j))) (sym r ∙ again_leaf x)
             ∙ sym (grown_one_leaf t g f.full f.ends x (ap (λ (p : Point). contains_of (root_of p) x) (sym (undo_ends t)) ∙ e)).found
         go false e =
             (grown_none before grown (undo_fits t f g s).full (undo_fits t f g s).ends x e).nothing

@@ -1,27 +1,21 @@
 -- The tree that uses a slice's nodes: its nodes, its parents, and its links, which are those that are gathered. Assumes nothing.
-use mathlib.Core.Path.{◌≡◌, refl, sym, ap, subst, ◌∙◌}
-use mathlib.Core.Bool.{Bool, true, false, not}
+use mathlib.Core.Path.{◌≡◌, sym, ap, subst, ◌∙◌}
+use mathlib.Core.Bool.{Bool, false, not}
 use mathlib.Core.Logic.{⊎_elim}
-use mathlib.Core.List.{List, map, ◌++◌}
+use mathlib.Core.List.{List, ◌++◌}
 use Prim.Native.Nat.{ℕ, zero, suc, ◌+◌, ◌-◌, ◌<◌, ◌≤◌}
 use native.Mathlib.Nat.{eq-or-lt_of_le}
 use native.Mathlib.Omega.{arith}
 use lib.Dec.{eqb}
-use lib.ListN.{length, get_or, take, drop, replicate, length-append, length-replicate, length-map, length-drop, get_or-replicate, get_or-append}
+use lib.ListN.{length, get_or, take, drop, replicate, length-append, length-replicate, length-drop, get_or-replicate, get_or-append}
 use lib.Seq.{length-take-le, get_or-take, get_or-drop, get_or-append-add, ext_get_or}
-use Rattle.remy.specs.Action.{valid_of}
 use Rattle.rule_tree.specs.declared.Node.{Node}
 use Rattle.rule_tree.specs.Lists.{count_below}
-use Rattle.rule_tree.specs.Nodes.{no_node, node_at_of, is_leaf_of, blank_node, children_of, action_in}
-use Rattle.rule_tree.specs.Grown.{link_holds, linked_of}
-use Rattle.rule_tree.proofs.Lists.{all_below_at}
+use Rattle.rule_tree.specs.Nodes.{no_node, node_at_of, is_leaf_of, blank_node, children_of, links_of}
+use Rattle.rule_tree.proofs.Lists.{count_below_same}
 use Rattle.rule_tree.proofs.LinkWays.{children_at, children_count}
-use Rattle.rule_tree.proofs.GrownTree.{Parent, link_parts}
 use Rattle.rule_tree.proofs.Owners.{below_or_not}
-use Rattle.rule_tree.proofs.Walking.{linked_links}
-use Rattle.rule_tree_view.specs.View.{parents_in, lent_nodes, link_of, links_of, linked_parents}
-use Rattle.rule_tree_view.proofs.Gathering.{mapped_at, link_valid, link_invalid}
-use Rattle.rule_tree_view.proofs.Parents.{count_same}
+use Rattle.rule_tree_view.specs.View.{parents_in, lent_nodes, linked_parents}
 
 -- what f and g have below n, and none from there on
 count_past : (m n : ℕ) (f g : ℕ → Bool) → n ≤ m → ((i : ℕ) → i < n → f i ≡ g i) → ((i : ℕ) → n ≤ i → i < m → f i ≡ false)
@@ -30,7 +24,7 @@ unfolding count_below
 count_past zero n f g l s z = let e : 0 ≡ n = omega arith in ap (λ (k : ℕ). count_below k g) e
 count_past (suc m) n f g l s z =
     ⊎_elim
-    (λ (e : n ≡ suc m). count_same (suc m) f g (λ i b. s i (omega (arith, e))) ∙ ap (λ (k : ℕ). count_below k g) (sym e))
+    (λ (e : n ≡ suc m). count_below_same (suc m) f g (λ i b. s i (omega (arith, e))) ∙ ap (λ (k : ℕ). count_below k g) (sym e))
     (λ (b : n < suc m).
     let h = count_past m n f g (omega arith) s (λ i p q. z i p (omega arith)) in
     let y : f m ≡ false = z m (omega arith) (omega arith) in
@@ -64,52 +58,37 @@ module _ (nodes : List Node) where
 
   -- ---- the links that are gathered
   module _ (few : n ≤ 513) where
-    heads : length (take n (map link_of nodes)) ≡ n
-    heads = length-take-le n (map link_of nodes) (omega (arith, length-map nodes link_of))
+    heads : length (take n (children_of nodes)) ≡ n
+    heads = length-take-le n (children_of nodes) (omega (arith, children_count nodes))
 
     links_full : length (links_of nodes n) ≡ 513
     unfolding links_of
     links_full =
-        omega (arith, length-append (take n (map link_of nodes)) (drop n (replicate 513 0)), heads, length-drop {A = ℕ} n (replicate 513 0), length-replicate {A = ℕ} 513 0)
+        omega (arith, length-append (take n (children_of nodes)) (drop n (replicate 513 0)), heads, length-drop {A = ℕ} n (replicate 513 0), length-replicate {A = ℕ} 513 0)
 
-    links_at : (i : ℕ) → i < n → get_or (links_of nodes n) i 0 ≡ link_of (node_at_of nodes i)
+    links_at : (i : ℕ) → i < n → get_or (links_of nodes n) i 0 ≡ (node_at_of nodes i).children
     unfolding links_of
     links_at i l =
-        get_or-append (take n (map link_of nodes)) (drop n (replicate 513 0)) 0 i (omega (arith, heads))
-        ∙ get_or-take n (map link_of nodes) i 0 l
-        ∙ mapped_at link_of nodes i no_node 0 l
+        get_or-append (take n (children_of nodes)) (drop n (replicate 513 0)) 0 i (omega (arith, heads))
+        ∙ get_or-take n (children_of nodes) i 0 l
+        ∙ children_at nodes i
 
     links_past : (i : ℕ) → n ≤ i → i < 513 → get_or (links_of nodes n) i 0 ≡ 0
     unfolding links_of
     links_past i l m =
         let h = heads in
-        subst (λ (k : ℕ). get_or (take n (map link_of nodes) ++ drop n (replicate 513 0)) k 0 ≡ 0) (omega arith)
-        (get_or-append-add (take n (map link_of nodes)) (drop n (replicate 513 0)) (i - n) 0
+        subst (λ (k : ℕ). get_or (take n (children_of nodes) ++ drop n (replicate 513 0)) k 0 ≡ 0) (omega arith)
+        (get_or-append-add (take n (children_of nodes)) (drop n (replicate 513 0)) (i - n) 0
         ∙ get_or-drop n (replicate 513 0) (i - n) 0
         ∙ get_or-replicate 513 (n + (i - n)) 0 0 (omega arith))
 
-    pub links_all : ((i : ℕ) → i < n → valid_of (action_in (node_at_of nodes i)) ≡ true) → links_of nodes n ≡ children_of all
-    links_all v =
+    pub links_all : links_of nodes n ≡ children_of all
+    links_all =
         ext_get_or 0 (links_of nodes n) (children_of all) (links_full ∙ sym (children_count all ∙ lent_full few))
         (λ i b. ⊎_elim
         (λ (l : i < n).
-        links_at i l ∙ sym (link_valid (node_at_of nodes i) true (sym (v i l)) refl)
-        ∙ sym (children_at all i ∙ ap (λ (x : Node). x.children) (lent_used i l)))
+        links_at i l ∙ sym (children_at all i ∙ ap (λ (x : Node). x.children) (lent_used i l)))
         (λ (l : n ≤ i).
         let m : i < 513 = omega (arith, b, links_full) in
         links_past i l m ∙ sym (children_at all i ∙ ap (λ (x : Node). x.children) (lent_blank i l m)))
         (below_or_not i n))
-
-    -- no tested link is that of an action that is not valid
-    pub links_valid : (s : ℕ) → linked_of (links_of nodes n) s ≡ true → (i : ℕ) → i < n → valid_of (action_in (node_at_of nodes i)) ≡ true
-    links_valid s h i l = go (valid_of (action_in (node_at_of nodes i))) refl
-      where
-        go : (b : Bool) → valid_of (action_in (node_at_of nodes i)) ≡ b → b ≡ true
-        go true e = refl
-        go false e =
-            let c : get_or (links_of nodes n) i 0 ≡ 65535 = links_at i l ∙ sym (link_invalid (node_at_of nodes i) false (sym e) refl) in
-            absurd
-            (⊎_elim (λ (z : get_or (links_of nodes n) i 0 ≡ 0). omega (arith, c, z))
-            (λ (p : Parent s (get_or (links_of nodes n) i 0) i). omega (arith, c, p.first))
-            (link_parts s (get_or (links_of nodes n) i 0) i
-            (all_below_at 513 i (λ j. link_holds s (get_or (links_of nodes n) j 0) j) (linked_links (links_of nodes n) s h) (omega arith))))

@@ -1,9 +1,6 @@
-pub mod Answered
-pub mod Gathering
 pub mod Held
 pub mod Lent
 pub mod OneLeaf
 pub mod Parents
 pub mod Sizes
-pub mod Telling
 pub mod Viewed

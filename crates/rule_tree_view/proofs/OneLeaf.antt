@@ -13,7 +13,7 @@ use Rattle.remy.specs.Action.{valid_of}
 use Rattle.remy.specs.Cube.{zero, least_end, ack, send, ratio, point_of, root_of, contains_of}
 use Rattle.remy.proofs.Ends.{ends_from_one}
 use Rattle.rule_tree.specs.declared.RuleTree.{RuleTree}
-use Rattle.rule_tree.specs.declared.Looked.TheVariants.{Found}
+use Rattle.std.specs.Prelude.{Ok, Some}
 use Rattle.rule_tree.specs.Nodes.{leaf_with}
 use Rattle.rule_tree.specs.Grown.{ends_hold, grown_of}
 use Rattle.rule_tree.specs.Walk.{descend}
@@ -35,7 +35,7 @@ module _ (ends : Point) (f : PointFits ends) (h : ends_hold ends ≡ true) (b a 
   grown : grown_of t ≡ true
   grown = fresh_grown ends b vb h
 
-  pub one_leaf : (p : Point) → contains_of (root_of ends) p ≡ true → view_of (leaf_with b ∷ []) ends 0 a p ≡ Found a
+  pub one_leaf : (p : Point) → contains_of (root_of ends) p ≡ true → view_of (leaf_with b ∷ []) ends 0 a p ≡ Ok (Some a)
   unfolding replaced_of found_in descend
   one_leaf p i = view_grown t (fresh_length ends b) grown f 0 a p ∙ rw (grown, va, i)
 
@@ -45,5 +45,5 @@ module _ (ends : Point) (f : PointFits ends) (h : ends_hold ends ≡ true) (b a 
       let low = ends_from_one ends (ends_admitted_lem ends h) in
       rw (above_zero (ack ends) low.0, above_zero (send ends) low.1.0, above_zero (ratio ends) low.1.1)
 
-  pub one_leaf_at_zero : view_of (leaf_with b ∷ []) ends 0 a (point_of zero zero zero) ≡ Found a
+  pub one_leaf_at_zero : view_of (leaf_with b ∷ []) ends 0 a (point_of zero zero zero) ≡ Ok (Some a)
   one_leaf_at_zero = one_leaf (point_of zero zero zero) zero_inside

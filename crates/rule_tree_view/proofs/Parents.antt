@@ -1,6 +1,6 @@
 -- A grown tree has as many parents as splits. Assumes nothing.
 use mathlib.Core.Path.{◌≡◌, refl, sym, ap, subst, ◌∙◌}
-use mathlib.Core.Bool.{Bool, true, false, not, ◌&&◌, cond}
+use mathlib.Core.Bool.{Bool, true, false, not, ◌&&◌}
 use mathlib.Core.Logic.{⊎_elim}
 use Prim.Native.Nat.{ℕ, zero, suc, ◌+◌, ◌*◌, ◌<◌, ◌≤◌}
 use native.Mathlib.Nat.{eq-or-lt_of_le}
@@ -15,15 +15,9 @@ use Rattle.rule_tree.specs.Grown.{grown_of}
 use Rattle.rule_tree.proofs.LinkWays.{children_at}
 use Rattle.rule_tree.proofs.Links as links
 use Rattle.rule_tree.proofs.Owners.{same_or_not, below_or_not}
+use Rattle.rule_tree.proofs.Lists.{count_below_same, count_below_none}
 
 -- ---- counts of two tests
-pub count_same : (m : ℕ) (f g : ℕ → Bool) → ((i : ℕ) → i < m → f i ≡ g i) → count_below m f ≡ count_below m g
-unfolding count_below
-count_same zero f g h = refl
-count_same (suc m) f g h =
-    ap (λ (z : Bool). cond z 1 0 + count_below m f) (h m (omega arith))
-    ∙ ap (λ (k : ℕ). cond (g m) 1 0 + k) (count_same m f g (λ i l. h i (omega arith)))
-
 -- f holds where g does, and at q besides
 count_one_more : (m : ℕ) (f g : ℕ → Bool) (q : ℕ) → q < m → f q ≡ true → g q ≡ false → ((i : ℕ) → i < m → (i ≡ q → ⊥) → f i ≡ g i)
     → count_below m f ≡ suc (count_below m g)
@@ -34,18 +28,13 @@ count_one_more (suc m) f g q l a b h =
     (λ (p : q ≡ m).
     let x : f m ≡ true = subst (λ (k : ℕ). f k ≡ true) p a in
     let y : g m ≡ false = subst (λ (k : ℕ). g k ≡ false) p b in
-    let z = count_same m f g (λ i r. h i (omega arith) (λ e. omega (arith, e))) in
+    let z = count_below_same m f g (λ i r. h i (omega arith) (λ e. omega (arith, e))) in
     rw (x, y) (omega (arith, z)))
     (λ (r : q < m).
     let x : f m ≡ g m = h m (omega arith) (λ e. omega (arith, e)) in
     let z = count_one_more m f g q r a b (λ i k n. h i (omega arith) n) in
     rw x (omega (arith, z)))
     (eq-or-lt_of_le (omega arith))
-
-count_never : (m : ℕ) (f : ℕ → Bool) → ((i : ℕ) → i < m → f i ≡ false) → count_below m f ≡ 0
-unfolding count_below
-count_never zero f h = refl
-count_never (suc m) f h = let z = count_never m f (λ i l. h i (omega arith)) in rw (h m (omega arith)) (omega arith)
 
 -- ---- the parents whose children the first s splits made
 module _ (t : RuleTree) (full : length t.nodes ≡ 513) (g : grown_of t ≡ true) where
@@ -82,7 +71,7 @@ module _ (t : RuleTree) (full : length t.nodes ≡ 513) (g : grown_of t ≡ true
 
   early_count : (s : ℕ) → s ≤ t.splits → count_below 513 (early s) ≡ s
   early_count zero l =
-      count_never 513 (early zero) (λ i b.
+      count_below_none 513 (early zero) (λ i b.
       ⊎_elim (λ (z : kids i ≡ 0). early_leaf zero i z) (λ (p : kids i ≡ 0 → ⊥). early_after zero i (positive (kids i) p)) (same_or_not (kids i) 0))
     where
       positive : (k : ℕ) → (k ≡ 0 → ⊥) → 1 ≤ k
@@ -99,7 +88,7 @@ module _ (t : RuleTree) (full : length t.nodes ≡ 513) (g : grown_of t ≡ true
       ∙ ap suc (early_count s (omega arith))
 
   pub parents_splits : count_below 513 (λ i. not (is_leaf_of t.nodes i)) ≡ t.splits
-  parents_splits = count_same 513 (λ i. not (is_leaf_of t.nodes i)) (early t.splits) every ∙ early_count t.splits (omega arith)
+  parents_splits = count_below_same 513 (λ i. not (is_leaf_of t.nodes i)) (early t.splits) every ∙ early_count t.splits (omega arith)
     where
       every : (i : ℕ) → i < 513 → not (is_leaf_of t.nodes i) ≡ early t.splits i
       every i l =

@@ -6,6 +6,7 @@ use Prim.Native.Nat.{ℕ, ◌+◌, ◌≤◌}
 use native.Mathlib.Omega.{arith}
 use borrow.Author.Tests.{eq-eqb}
 use lib.Ieee.{to_bits}
+use Rattle.std.specs.Prelude.{Ok}
 use Rattle.remy.specs.declared.action.Action.{Action}
 use Rattle.remy.specs.declared.point.Point.{Point}
 use Rattle.remy.specs.Action.{valid_of}
@@ -21,7 +22,6 @@ use Rattle.trainer.specs.declared.settings.Settings.{Settings}
 use Rattle.trainer.specs.Settings.{settings_hold}
 use Rattle.trainer.specs.State.{untried_in, box_holds, phase_holds, accepted_of}
 use Rattle.trainer.proofs.Holds.{parts}
-use Rattle.trainer.specs.Phases.{taken}
 use Rattle.trainer.proofs.AcceptedFacts.{few_splits}
 use Rattle.record.specs.Write.{record_of}
 use Rattle.record.specs.Calls.{load_of}
@@ -82,5 +82,5 @@ module _ (s : Settings) (f : SettingsFits s) (h : settings_hold s ≡ true) (a :
       }
 
   -- the loader takes what a save writes of it
-  pub listed_loaded : load_of (record_of (ended_with s tree)) ≡ taken (ended_with s tree)
+  pub listed_loaded : load_of (record_of (ended_with s tree)) ≡ Ok (ended_with s tree)
   listed_loaded = load_saved (ended_with s tree) fit listed_accepted

@@ -1,22 +1,23 @@
 -- 02, request 14: "Each grows a tree": a list of at most 64 splits, each of a leaf then, grows one over any ends. Assumes nothing.
 use mathlib.Core.Path.{◌≡◌, refl, sym, ap, subst, ◌∙◌}
-use mathlib.Core.Bool.{true, false, cond}
+use mathlib.Core.Bool.{true, false}
 use mathlib.Core.List.{List, [], ◌∷◌}
 use Prim.Native.Nat.{ℕ, zero, suc, ◌+◌, ◌*◌, ◌<◌, ◌≤◌}
 use native.Mathlib.Omega.{arith}
 use borrow.Author.Tests.{lt-ltb, eq-eqb}
-use lib.Dec.{eqb}
 use lib.ListN.{length, get_or, replicate}
 use lib.Seq.{get_or-set_other}
+use Rattle.std.specs.Prelude.{Result, Ok}
+use Rattle.refusal.specs.declared.Refusal.{Refusal}
+use Rattle.refusal.specs.Guards.{and_then}
 use Rattle.remy.specs.declared.action.Action.{Action}
 use Rattle.remy.specs.Action.{valid_of}
 use Rattle.remy.specs.declared.point.Point.{Point}
 use Rattle.rule_tree.specs.declared.RuleTree.{RuleTree}
-use Rattle.rule_tree.specs.declared.Changed.{Changed}
 use Rattle.rule_tree.specs.Nodes.{node_at_of, node_count, children_of, slots, most_splits}
 use Rattle.rule_tree.specs.Grown.{ends_hold, grown_of}
 use Rattle.rule_tree.specs.Change.{fresh_tree, split_at_of}
-use Rattle.rule_tree.specs.Calls.{leaf_in, taken, split_of}
+use Rattle.rule_tree.specs.Calls.{leaf_in, split_of}
 use Rattle.rule_tree.proofs.Changing.{split_splits}
 use Rattle.rule_tree.proofs.Links.{grown_linked}
 use Rattle.rule_tree.proofs.LinkWays.{children_at}
@@ -57,17 +58,17 @@ module _ (t : RuleTree) (done : List ℕ) (i : ℕ) (g : Growth t) (f : Free t d
       }
 
 -- each public call is taken
-split_taken : (t : RuleTree) (i : ℕ) → grown_of t ≡ true → leaf_in t i ≡ true → t.splits < most_splits → split_of t i ≡ taken (split_at_of t i)
+split_taken : (t : RuleTree) (i : ℕ) → grown_of t ≡ true → leaf_in t i ≡ true → t.splits < most_splits → split_of t i ≡ Ok (split_at_of t i)
 unfolding split_of
 split_taken t i g l b = rw (g, l, lt-ltb t.splits most_splits b)
 
-split_more : (t : RuleTree) (i : ℕ) (rest : List ℕ) → split_of t i ≡ taken (split_at_of t i) → split_each t (i ∷ rest) ≡ split_each (split_at_of t i) rest
+split_more : (t : RuleTree) (i : ℕ) (rest : List ℕ) → split_of t i ≡ Ok (split_at_of t i) → split_each t (i ∷ rest) ≡ split_each (split_at_of t i) rest
 unfolding split_each
-split_more t i rest e = ap (λ (c : Changed). cond (eqb c.refused 0) (split_each c.tree rest) c) e
+split_more t i rest e = ap (λ (r : Result RuleTree Refusal). and_then r (λ u. split_each u rest)) e
 
 record Grows (t : RuleTree) (rest : List ℕ) : Type 0 where
   growth : Growth (grown_by t rest)
-  calls : split_each t rest ≡ taken (grown_by t rest)
+  calls : split_each t rest ≡ Ok (grown_by t rest)
 
 grow : (t : RuleTree) (done rest : List ℕ) → Growth t → Free t done → grows_from done t.splits rest ≡ true → t.splits + length rest ≤ most_splits → Grows t rest
 unfolding grown_by split_each
@@ -89,7 +90,7 @@ module _ (e : Point) (b : ends_hold e ≡ true) (a : Action) (v : valid_of a ≡
   listed_growth = grows.growth
 
   -- by the public calls, none of which is refused
-  pub listed_calls : split_each (fresh_tree e a) xs ≡ taken (grown_by (fresh_tree e a) xs)
+  pub listed_calls : split_each (fresh_tree e a) xs ≡ Ok (grown_by (fresh_tree e a) xs)
   listed_calls = grows.calls
 
   -- so that it passes the test for 10

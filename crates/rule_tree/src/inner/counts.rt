@@ -1,56 +1,46 @@
-// Counts, one a node.
+// Counts, one a node: a list of its own beside the tree, since callers lend it so. No struct of the counts that were tested holds for all calls: a
+// tally changes the counts that it is lent.
 ghost use Rattle.std.specs.Prelude.{◌≡◌, ◌≤◌, ◌<◌, length};
 ghost use Rattle.rule_tree.specs.Nodes.{slots, most_splits};
 ghost use Rattle.rule_tree.specs.Counts.{capped_total, none_at_parents, counts_hold, used_in, eligible, most_used};
 
-use crate::{Chosen, MOST_COUNTED, Node, RuleTree};
+use crate::{MOST_COUNTED, Node, RuleTree};
 
 // One more than the greatest total.
 const OVER: u64 = MOST_COUNTED + 1;
 
-// The total, or one more than 2^53 where it is above that.
+// The total, or one more than 2^53 where it is above that: a number and no Option, since both limits are tested by comparing it.
 pub fn capped_total(counts: &[u64]) -> u64
     ensures { result ≡ capped_total counts.now }
 {
     let mut total: u64 = 0;
-    let mut i: usize = 0;
-    while i < counts.len() {
-        let x = counts[i];
-        if MOST_COUNTED - total < x {
+    for x in counts {
+        if MOST_COUNTED - total < *x {
             return OVER;
         }
-        total += x;
-        i += 1;
+        total += *x;
     }
     total
 }
 
-fn none_at_parents(t: RuleTree, counts: &[u64]) -> bool
+fn none_at_parents(t: &RuleTree, counts: &[u64]) -> bool
     requires { length counts.now ≤ slots }
-    ensures { result ≡ none_at_parents t.nodes counts.now (length counts.now) }
+    ensures { result ≡ none_at_parents t.now.nodes counts.now (length counts.now) }
 {
-    let mut i: usize = 0;
-    while i < counts.len() {
-        if t.nodes[i].children != 0 {
-            if counts[i] != 0 {
-                return false;
-            }
-        }
-        i += 1;
-    }
-    true
+    counts
+        .iter()
+        .zip(&t.nodes)
+        .all(|(n, x)| x.children == 0 || *n == 0)
 }
 
-pub fn counts_hold(t: RuleTree, counts: &[u64]) -> bool
-    requires { t.splits ≤ most_splits }
-    ensures { result ≡ counts_hold t counts.now }
+#[tactic(auto, unfolding(crate::specs::Counts::counts_hold))]
+pub fn counts_hold(t: &RuleTree, counts: &[u64]) -> bool
+    requires { t.now.splits ≤ most_splits }
+    ensures { result ≡ counts_hold t.now counts.now }
 {
-    if counts.len() == 1 + 8 * (t.splits as usize) {
-        if none_at_parents(t, counts) {
-            return capped_total(counts) <= MOST_COUNTED;
-        }
-    }
-    false
+    counts.len() == 1 + 8 * (t.splits as usize)
+        && none_at_parents(t, counts)
+        && capped_total(counts) <= MOST_COUNTED
 }
 
 // How many counts are above 0.
@@ -58,53 +48,28 @@ pub fn used(counts: &[u64]) -> u32
     requires { length counts.now ≤ slots }
     ensures { result ≡ used_in counts.now }
 {
-    let mut n: u32 = 0;
-    let mut i: usize = 0;
-    while i < counts.len() {
-        if 0 < counts[i] {
-            n += 1;
-        }
-        i += 1;
-    }
-    n
+    counts.iter().filter(|n| **n > 0).count() as u32
 }
 
+#[tactic(auto, unfolding(crate::specs::Counts::eligible))]
 fn is_eligible(x: Node, unmarked: bool) -> bool
     ensures { result ≡ eligible x unmarked }
 {
-    if x.children == 0 {
-        if unmarked {
-            return !x.optimized;
-        }
-        return true;
-    }
-    false
+    x.children == 0 && !(unmarked && x.optimized)
 }
 
 // The leaf with the greatest count, the highest of several; unmarked leaves alone where asked.
-pub fn most_used(t: RuleTree, counts: &[u64], unmarked: bool) -> Chosen
+pub fn most_used(t: &RuleTree, counts: &[u64], unmarked: bool) -> Option<u16>
     requires { length counts.now ≤ slots }
-    ensures { result ≡ most_used t.nodes counts.now unmarked (length counts.now) }
+    ensures { result ≡ most_used t.now.nodes counts.now unmarked (length counts.now) }
 {
-    let mut found = false;
-    let mut best: u16 = 0;
+    let mut best: Option<u16> = None;
     let mut most: u64 = 0;
-    let mut i: u16 = 0;
-    while (i as usize) < counts.len() {
-        let at = i as usize;
-        let x = t.nodes[at];
-        if is_eligible(x, unmarked) {
-            let n = counts[at];
-            if most <= n {
-                best = i;
-                most = n;
-                found = true;
-            }
+    for (i, n) in counts.iter().enumerate() {
+        if is_eligible(t.nodes[i], unmarked) && most <= *n {
+            best = Some(i as u16);
+            most = *n;
         }
-        i += 1;
     }
-    if found {
-        return Chosen::Leaf(best);
-    }
-    Chosen::Nobody
+    best
 }

@@ -1,22 +1,18 @@
--- `RuleTree::tally` tests in the order 10, 4, 23, and a refusal leaves the list. Assumes nothing.
-use mathlib.Core.Path.{refl}
+-- A refusal leaves the list.
+use Rattle.std.proofs.Common.{arith, ◌≡◌}
+use Rattle.std.proofs.lemmas.Grind.{common_steps}
 use Rattle.rule_tree.specs.Calls.{tally_of}
-use Rattle.rule_tree.proofs.Ways.{via_true, via_false, few_splits}
 use Rattle.rule_tree.proofs.Looking.{counted_refused}
 use Rattle.rule_tree.proofs.RuleTree.tally.Goals as goal
 
-pub counts_hold-requires : goal.counts_hold-requires
-counts_hold-requires c = few_splits _ c.grown.ensures c.if-grown.true
-
-pub returns-then-grown : goal.returns-then-grown
+pub returns-in_err-t : goal.returns-in_err-t
 unfolding tally_of
-returns-then-grown c = (
-  (via_true _ c.grown.ensures c.if-grown.true
-      (via_false _ c.counts_hold.ensures c.if-counts_hold.false refl)),
-  counted_refused _ _ 4 (via_true _ c.grown.ensures c.if-grown.true
-      (via_false _ c.counts_hold.ensures c.if-counts_hold.false refl)),
-)
+returns-in_err-t c =
+    let e : c.from_residual.result ≡ tally_of c.args.self c.args.counts.now c.args.p = grind (arith, common_steps) in
+    (e, counted_refused _ _ _ c.from_residual.ensures.0 e)
 
-pub returns : goal.returns
+pub returns-in_err-counts : goal.returns-in_err-counts
 unfolding tally_of
-returns c = ((via_false _ c.grown.ensures c.if-grown.false refl), counted_refused _ _ 10 (via_false _ c.grown.ensures c.if-grown.false refl))
+returns-in_err-counts c =
+    let e : c.from_residual-in_err-counts.result ≡ tally_of c.args.self c.args.counts.now c.args.p = grind (arith, common_steps) in
+    (e, counted_refused _ _ _ c.from_residual-in_err-counts.ensures.0 e)

@@ -1,13 +1,7 @@
--- `eight_filled` meets its contract. The loop's invariant: the first of the eight nodes are filled. Assumes nothing.
-use mathlib.Core.Path.{refl}
-use native.Mathlib.Omega.{arith}
-use Rattle.rule_tree.specs.Lists.{fill}
-use Rattle.rule_tree.proofs.ChangeWays.{filled_more}
+-- Eight nodes filled at once.
+use Rattle.std.proofs.Common.{◌≡◌, rules, arith, length}
+use Rattle.rule_tree.proofs.ChangeWays.{eight_put}
 use Rattle.rule_tree.proofs.inner.change.eight_filled.Goals as goal
 
-pub loop-k-init : goal.loop-k-init
-unfolding fill
-loop-k-init c = (omega arith, refl)
-
-pub loop-k-preserved : goal.loop-k-preserved
-loop-k-preserved c = (omega arith, filled_more c.args.t _ _ _ _ _ c.loop-k.invariant.1)
+pub returns : goal.returns
+returns c = eight_put c.args.t c.args.from c.fill.new.self c.args.x (let n : length c.args.t.nodes ≡ 513 = search rules in omega arith) (c.fill.ensures.after (λ y e. e))

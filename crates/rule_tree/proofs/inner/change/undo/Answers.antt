@@ -1,12 +1,9 @@
--- `undo` meets its contract. Assumes nothing.
+-- `undo` meets its contract.
 use Rattle.rule_tree.proofs.ChangeWays.{newest_fits, undo_done}
 use Rattle.rule_tree.proofs.inner.change.undo.Goals as goal
 
 pub bounds-t-at : goal.bounds-t-at
 bounds-t-at c = newest_fits c.args.t _ c.newest_parent-at.ensures
 
-pub bounds-out-at : goal.bounds-out-at
-bounds-out-at c = newest_fits c.args.t _ c.newest_parent-at.ensures
-
 pub returns : goal.returns
-returns c = undo_done _ _ _ _ c.newest_parent-at.ensures c.blank_node-blank.ensures c.eight_filled-before.ensures
+returns c = undo_done c.args.t _ _ _ c.newest_parent-at.ensures c.blank_node-blank.ensures c.eight_filled-before.ensures

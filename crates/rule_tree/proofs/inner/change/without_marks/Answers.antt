@@ -1,9 +1,12 @@
--- `without_marks` meets its contract. The loop's invariant: the nodes passed are unmarked. Assumes nothing.
-use native.Mathlib.Omega.{arith}
-use Rattle.rule_tree.proofs.ChangeWays.{marks_more}
+-- The loop's invariant: the nodes passed are unmarked.
+use mathlib.Core.Path.{ap, ◌∙◌}
+use borrow.Author.Rules.{rules}
+use Rattle.rule_tree.specs.Change.{with_nodes, unmarked_node}
+use Rattle.rule_tree.proofs.ChangeWays.{marks_more, swept_all}
 use Rattle.rule_tree.proofs.inner.change.without_marks.Goals as goal
 
-pub loop-i-preserved : goal.loop-i-preserved
-loop-i-preserved c =
-    let h = c.loop-i.invariant in
-    (omega arith, h.1, marks_more _ _ _ _ c.loop-i-test.true h.1 h.2 c.unmarked.ensures)
+pub loop-x-preserved : goal.loop-x-preserved
+loop-x-preserved c = marks_more c.args.t.nodes _ _ _ (search rules) c.loop-x.invariant c.unmarked.ensures
+
+pub returns : goal.returns
+returns c = ap (with_nodes c.args.t) (c.loop-x.invariant ∙ swept_all unmarked_node c.args.t.nodes _ (search rules))

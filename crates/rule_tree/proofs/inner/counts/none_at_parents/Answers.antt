@@ -1,24 +1,15 @@
--- `none_at_parents` meets its contract. The loop's invariant: what was passed holds. Assumes nothing.
-use mathlib.Core.Path.{sym}
-use native.Mathlib.Omega.{arith}
-use Rattle.rule_tree.proofs.Lists.{all_below_none}
-use Rattle.rule_tree.proofs.Counting.{parents_fail, parents_leaf, parents_zero}
+-- No count above 0 stands beside a parent.
+use Rattle.std.proofs.Common.{rules, tests, ◌≡◌, ◌∙◌, ◌||◌, ℕ, eqb}
+use Rattle.std.specs.List.{list_all, zip}
+use Rattle.std.proofs.lemmas.Iterator.{YieldsList-from_slice, YieldsList-from_zip}
+use Rattle.std.proofs.lemmas.Iterator.Search.{all_from_yields_List}
+use Rattle.rule_tree.specs.declared.Node.{Node}
+use Rattle.rule_tree.specs.Nodes.{no_node}
+use Rattle.rule_tree.proofs.Lists.{all_below_pairs}
 use Rattle.rule_tree.proofs.inner.counts.none_at_parents.Goals as goal
-use Rattle.rule_tree.proofs.inner.counts.none_at_parents.Goals.{then-t-i-ne0+else-counts-i-ne0, else-t-i-ne0}
 
-pub loop-i-init : goal.loop-i-init
-loop-i-init c = (omega arith, all_below_none _)
-
-pub returns-then-counts-i-ne0 : goal.returns-then-counts-i-ne0
-returns-then-counts-i-ne0 c =
-    let a = c.args in
-    sym (parents_fail a.t.nodes a.counts.now _ _ c.loop-i-test.true c.if-t-i-ne0.true c.if-counts-i-ne0.true)
-
-pub loop-i-preserved : goal.loop-i-preserved
-loop-i-preserved c =
-    let a = c.args in
-    let h = c.loop-i.invariant.1 in
-    elim (c.if-t-i-ne0.branch) [
-      | then-t-i-ne0+else-counts-i-ne0 w ↦ (omega arith, parents_zero a.t.nodes a.counts.now _ h w.if-counts-i-ne0.false)
-      | else-t-i-ne0 w ↦ (omega arith, parents_leaf a.t.nodes a.counts.now _ h w.if-t-i-ne0.false)
-    ]
+pub returns : goal.returns
+returns c =
+    let e : c.all.result ≡ list_all (λ (q : ℕ × Node). eqb q.1.children 0 || eqb q.0 0) (zip c.args.counts.now c.args.t.now.nodes) =
+    all_from_yields_List _ c.all.new.self _ c.all.result c.all.ensures.ran (YieldsList-from_zip (YieldsList-from_slice c.args.counts.now cc) (YieldsList-from_slice c.args.t.now.nodes cc)) (λ x b q k. search (rules, tests)) in
+    e ∙ all_below_pairs (λ (n : ℕ) (x : Node). eqb x.children 0 || eqb n 0) c.args.counts.now c.args.t.now.nodes 0 no_node (search rules)

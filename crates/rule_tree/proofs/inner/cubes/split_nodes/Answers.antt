@@ -1,25 +1,30 @@
--- `rule_tree::inner::cubes::split_nodes` meets its contract. The loop's invariant: each bucket holds the last owner below `i`. Assumes nothing.
+-- The loop's invariant: each bucket holds the last owner below i.
 use mathlib.Core.Path.{refl, sym, ◌∙◌}
-use Prim.Native.Nat.{◌+◌}
-use borrow.Author.Rules.{rules}
+use native.Mathlib.Omega.{arith}
 use lib.ListN.{get_or-replicate}
+use Rattle.rule_tree.specs.Nodes.{children_of}
+use Rattle.rule_tree.proofs.LinkWays.{children_at}
 use Rattle.rule_tree.proofs.Owners as law
 use Rattle.rule_tree.proofs.inner.cubes.split_nodes.Goals as goal
-use Rattle.rule_tree.proofs.inner.cubes.split_nodes.Goals.{then-c-eq1+then-k-lt-MOST_SPLITS, then-c-eq1+else-k-lt-MOST_SPLITS, else-c-eq1}
-
-step : (c : goal.Joined-c-eq1) → law.Split c.args.children.now c.if-c-eq1.out (c.loop-i.i + 1)
-step c =
-    let cs = c.args.children.now in
-    let out = c.loop-i.out in
-    let i = c.loop-i.i in
-    let h = c.loop-i.invariant.1 in
-    elim (c.if-c-eq1.branch) [ then-c-eq1+then-k-lt-MOST_SPLITS w ↦ law.split_hit cs out c.if-c-eq1.out i h w.out-is w.if-c-eq1.true w.if-k-lt-MOST_SPLITS.true | then-c-eq1+else-k-lt-MOST_SPLITS w ↦ law.split_far cs out c.if-c-eq1.out i h w.out-is w.if-k-lt-MOST_SPLITS.false | else-c-eq1 w ↦ law.split_odd cs out c.if-c-eq1.out i h w.out-is w.if-c-eq1.false ]
+use Rattle.rule_tree.proofs.inner.cubes.split_nodes.Goals.{then-x-eq1+then-k-lt-MOST_SPLITS, else-x-eq1, else-x-eq1-via-then-x-eq1+else-k-lt-MOST_SPLITS, else-x-eq1-via-else-x-eq1}
 
 pub loop-i-init : goal.loop-i-init
-loop-i-init c = (search rules, (refl, λ k l. get_or-replicate 64 k 0 0 l ∙ sym (law.owner_none _ _)))
+loop-i-init c = (refl, λ k l. get_or-replicate 64 k 0 0 l ∙ sym (law.owner_none _ _))
 
 pub loop-i-preserved : goal.loop-i-preserved
-loop-i-preserved c = (search rules, step c)
+loop-i-preserved c =
+    let cs = children_of c.args.t.now.nodes in
+    let out = c.loop-i.out in
+    let i = c.loop-i.i in
+    let h = c.loop-i.invariant in
+    let link = sym (children_at c.args.t.now.nodes i) in
+    elim (c.if-x-eq1.branch) [
+      | then-x-eq1+then-k-lt-MOST_SPLITS w ↦ law.split_hit cs out c.if-x-eq1.out i h (rw link at w.out-is) (rw link at w.if-x-eq1.true) (rw link at w.if-k-lt-MOST_SPLITS.true)
+      | else-x-eq1 w ↦ elim (w.else-x-eq1.branch) [
+        | else-x-eq1-via-then-x-eq1+else-k-lt-MOST_SPLITS v ↦ law.split_far cs out c.if-x-eq1.out i h w.out-is (rw link at v.if-k-lt-MOST_SPLITS.false)
+        | else-x-eq1-via-else-x-eq1 v ↦ law.split_odd cs out c.if-x-eq1.out i h w.out-is (rw link at v.if-x-eq1.false)
+      ]
+    ]
 
 pub returns : goal.returns
-returns c = law.split_all c.args.children.now c.loop-i.out _ c.loop-i.invariant.0 c.loop-i-test.false c.loop-i.invariant.1
+returns c = law.split_all (children_of c.args.t.now.nodes) c.loop-i.out c.loop-i.i (omega arith) (omega arith) c.loop-i.invariant

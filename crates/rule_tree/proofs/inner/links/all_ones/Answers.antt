@@ -1,15 +1,14 @@
--- `rule_tree::inner::links::all_ones` meets its contract. The loop's invariant: the counts below `k` are 1. Assumes nothing.
-use mathlib.Core.Path.{refl, sym}
-use borrow.Author.Tests.{eq-eqb, ne_eqb}
-use borrow.Author.Rules.{rules}
-use Rattle.rule_tree.proofs.Lists as lists
+-- Each of the first splits has one owner.
+use Rattle.std.proofs.Common.{rules, tests, ◌≡◌, ◌∙◌, ℕ, eqb, take}
+use Rattle.std.specs.List.{list_all}
+use Rattle.std.proofs.lemmas.Iterator.{YieldsList-from_slice}
+use Rattle.std.proofs.lemmas.Iterator.Search.{all_from_yields_List}
+use Rattle.rule_tree.proofs.Lists.{all_below_front}
 use Rattle.rule_tree.proofs.inner.links.all_ones.Goals as goal
 
-pub loop-k-init : goal.loop-k-init
-loop-k-init c = (search rules, refl, lists.all_below_none _)
-
-pub loop-k-preserved : goal.loop-k-preserved
-loop-k-preserved c = (search rules, refl, lists.all_below_more _ _ c.loop-k.invariant.2 (eq-eqb _ _ c.if-owners-k-eq1.true))
-
-pub returns-else-owners-k-eq1 : goal.returns-else-owners-k-eq1
-returns-else-owners-k-eq1 c = sym (lists.all_below_fails _ c.loop-k.k _ (search rules) (ne_eqb _ _ c.if-owners-k-eq1.false))
+pub returns : goal.returns
+returns c =
+    let xs = c.args.owners.now in
+    let e : c.all.result ≡ list_all (λ (n : ℕ). eqb n 1) (take c.args.splits xs) =
+    all_from_yields_List _ _ _ c.all.result c.all.ensures.ran (YieldsList-from_slice (take c.args.splits xs) (search rules)) (λ x b q k. search (rules, tests)) in
+    e ∙ all_below_front (λ (n : ℕ). eqb n 1) xs 0 c.args.splits (search rules)

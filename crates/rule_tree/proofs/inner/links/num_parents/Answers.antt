@@ -1,22 +1,13 @@
--- `rule_tree::inner::links::num_parents` meets its contract. The loop's invariant: `n` counts the parents below `i`. Assumes nothing.
-use mathlib.Core.Path.{sym, ◌∙◌}
-use mathlib.Core.Bool.{not}
-use native.Mathlib.Omega.{arith}
-use borrow.Author.Rules.{rules}
-use Rattle.rule_tree.specs.Nodes.{is_leaf_of}
-use Rattle.rule_tree.proofs.Lists as lists
-use Rattle.rule_tree.proofs.LinkWays as law
+-- How many nodes are no leaf.
+use Rattle.std.proofs.Common.{rules, ◌≡◌, ◌∙◌, ap, sym, length, get_or, eqb, not, count_by}
+use Rattle.rule_tree.specs.declared.Node.{Node}
+use Rattle.rule_tree.specs.Lists.{count_below}
+use Rattle.rule_tree.specs.Nodes.{no_node}
+use Rattle.rule_tree.proofs.Lists.{count_below_list}
 use Rattle.rule_tree.proofs.inner.links.num_parents.Goals as goal
-use Rattle.rule_tree.proofs.inner.links.num_parents.Goals.{then-t-i-ne0, else-t-i-ne0}
 
-pub loop-i-init : goal.loop-i-init
-loop-i-init c = (search rules, sym (law.count_none _))
-
-pub overflow_add-n : goal.overflow_add-n
-overflow_add-n c = omega (arith, lists.count_below_le c.loop-i.i (λ j. not (is_leaf_of c.args.t.nodes j)))
-
-pub loop-i-preserved : goal.loop-i-preserved
-loop-i-preserved c = (
-  search rules,
-  elim (c.if-t-i-ne0.branch) [ then-t-i-ne0 w ↦ w.n-is ∙ law.parent_counts c.args.t.nodes _ _ w.if-t-i-ne0.true c.loop-i.invariant.1 | else-t-i-ne0 w ↦ w.n-is ∙ law.leaf_counts_none c.args.t.nodes _ _ w.if-t-i-ne0.false c.loop-i.invariant.1 ],
-)
+pub returns : goal.returns
+returns c =
+    let long : length c.args.t.now.nodes ≡ 513 = search rules in
+    let e : c.count.result ≡ count_by (λ (x : Node). not (eqb x.children 0)) c.args.t.now.nodes = search rules in
+    e ∙ sym (count_below_list (λ (x : Node). not (eqb x.children 0)) c.args.t.now.nodes no_node) ∙ ap (λ n. count_below n (λ k. not (eqb (get_or c.args.t.now.nodes k no_node).children 0))) long

@@ -1,14 +1,20 @@
--- `rule_tree::inner::links::payloads_hold` meets its contract. The loop's invariant: the slots below `i` hold. Assumes nothing.
-use mathlib.Core.Path.{refl, sym, ◌∙◌}
-use borrow.Author.Rules.{rules}
-use Rattle.rule_tree.proofs.Lists as lists
+-- Every slot holds.
+use Rattle.std.proofs.Common.{rules, tests, ◌≡◌, ◌∙◌, ap, ℕ, length, ltb, get_or}
+use Rattle.std.specs.List.{list_all, enumerate_from}
+use Rattle.std.proofs.lemmas.Iterator.{YieldsList-from_slice}
+use Rattle.std.proofs.lemmas.Iterator.Search.{all_from_yields_List}
+use Rattle.std.proofs.lemmas.Iterator.Consumers.{YieldsList-from_enumerate}
+use Rattle.rule_tree.specs.declared.Node.{Node}
+use Rattle.rule_tree.specs.Lists.{all_below}
+use Rattle.rule_tree.specs.Nodes.{no_node, node_count}
+use Rattle.rule_tree.specs.Grown.{slot_holds}
+use Rattle.rule_tree.proofs.Lists.{all_below_places}
 use Rattle.rule_tree.proofs.inner.links.payloads_hold.Goals as goal
 
-pub loop-i-init : goal.loop-i-init
-loop-i-init c = (search rules, refl, lists.all_below_none _)
-
-pub loop-i-preserved : goal.loop-i-preserved
-loop-i-preserved c = (search rules, refl, lists.all_below_more _ _ c.loop-i.invariant.2 (sym c.slot_holds.ensures ∙ c.if-slot_holds.true))
-
-pub returns-else-slot_holds : goal.returns-else-slot_holds
-returns-else-slot_holds c = sym (lists.all_below_fails 513 c.loop-i.i _ (search rules) (sym c.slot_holds.ensures ∙ c.if-slot_holds.false))
+pub returns : goal.returns
+returns c =
+    let xs = c.args.t.now.nodes in
+    let long : length xs ≡ 513 = search rules in
+    let e : c.all.result ≡ list_all (λ (q : ℕ × Node). slot_holds q.1 (ltb q.0 (node_count c.args.t.now.splits))) (enumerate_from 0 xs) =
+    all_from_yields_List _ _ _ c.all.result c.all.ensures.ran (YieldsList-from_enumerate (YieldsList-from_slice xs cc) cc) (λ x b q k. search (rules, tests)) in
+    e ∙ all_below_places (λ i x. slot_holds x (ltb i (node_count c.args.t.now.splits))) xs no_node ∙ ap (λ n. all_below n (λ i. slot_holds (get_or xs i no_node) (ltb i (node_count c.args.t.now.splits)))) long
