@@ -1,28 +1,32 @@
 -- What an accepted trainer holds, fact by fact. Assumes nothing.
-use mathlib.Core.Path.{◌≡◌, refl, sym, ap, subst, ◌∙◌}
-use mathlib.Core.Bool.{Bool, true, false, not, ◌&&◌, ◌||◌, cond}
+use mathlib.Core.Path.{◌≡◌, refl, sym, ◌∙◌}
+use mathlib.Core.Bool.{Bool, true, false, not, ◌&&◌, ◌||◌, cond, false≢true}
 use mathlib.Core.Logic.{◌⊎◌, inl, inr, ⊎_elim}
 use mathlib.Core.List.{List}
 use Prim.Native.Nat.{ℕ, ◌+◌, ◌<◌, ◌≤◌}
 use native.Mathlib.Omega.{arith}
 use borrow.Author.Tests.{ne_eqb, eqb-true, leb-true, ltb-true}
+use Rattle.std.specs.Prelude.{Some}
 use lib.Dec.{eqb, leb, ltb}
 use lib.ListN.{length}
 use lib.Ieee.{lt}
-use Rattle.remy.specs.declared.action.Action.{Action}
 use Rattle.remy.specs.Action.{valid_of}
+use Rattle.rule_tree.specs.declared.RuleTree.{RuleTree}
 use Rattle.rule_tree.specs.Nodes.{node_at_of}
-use Rattle.rule_tree.specs.Grown.{grown_of}
 use Rattle.rule_tree.specs.Counts.{counts_hold}
+use Rattle.rule_tree.specs.Grown.{grown_of}
 use Rattle.rule_tree.specs.Calls.{leaf_in}
+use Rattle.rule_tree.proofs.Ways.{few_counts}
+use Rattle.rule_tree.proofs.Counting.{most_used_leaf}
 use Rattle.rule_tree.proofs.GrownTree.{grown_facts, grown_long, leaf_below, leaf_valid}
 use Rattle.trainer.specs.declared.settings.Settings.{Settings}
 use Rattle.trainer.specs.declared.Trainer.{Trainer}
 use Rattle.trainer.specs.Settings.{numbers_hold, settings_hold}
 use Rattle.trainer.specs.Candidates.{candidates_of}
 use Rattle.trainer.specs.State.{none, zero_bits_of, kept_in, kept_holds, untried, idle, leaf_action, leaf_holds, try_holds_of, splitting, tuning, ending, box_holds, phase_holds, accepted_of}
+use Rattle.trainer.specs.Phases.{most_used_in}
 use Rattle.trainer.specs.Calls.{wants_score}
-use Rattle.trainer.specs.Fields.{Counting, Scoring, Kept}
+use Rattle.trainer.specs.Fields.{action_at, Scoring, Kept}
 use Rattle.trainer.proofs.Holds.{and_left, and_right, parts}
 use Rattle.trainer.proofs.AcceptWays.{by_phase_lem, phase_is, accepted_is, phase_ask, phase_try}
 
@@ -72,9 +76,6 @@ picked : {R : Type 0} (b x y : Bool) → cond b x y ≡ true → (x ≡ true →
 picked true x y h f g = f h
 picked false x y h f g = g h
 
-clash : false ≡ true → ⊥
-clash h = let z : ◌≡◌ {A = ℕ} 0 1 = cc in omega arith
-
 pub phase_cases :
     {R : Type 0} (p : ℕ) (a b c d e : Bool) → by_phase_lem p a b c d e ≡ true → (a ≡ true → R) → (b ≡ true → R) → (c ≡ true → R) → (d ≡ true → R)
     → (e ≡ true → R) → R
@@ -83,7 +84,7 @@ phase_cases p a b c d e h i j k l m =
     (λ q. picked (eqb p 3) b _ q j
     (λ q. picked (eqb p 4) c _ q k
     (λ q. picked (eqb p 5) d _ q l
-    (λ q. picked (eqb p 6 || eqb p 7) e false q m (λ z. absurd (clash z))))))
+    (λ q. picked (eqb p 6 || eqb p 7) e false q m (λ z. absurd (false≢true z))))))
 
 -- ---- an accepted trainer
 module _ (t : Trainer) (h : accepted_of t ≡ true) where
@@ -113,6 +114,12 @@ module _ (t : Trainer) (h : accepted_of t ≡ true) where
   pub accepted_few : t.tree.splits ≤ 64
   accepted_few = (grown_facts t.tree accepted_grown).few
 
+  pub accepted_splits : t.settings.rule_splits ≤ 64
+  accepted_splits = few_splits t.settings accepted_settings
+
+  pub accepted_counts : (xs : List ℕ) → counts_hold t.tree xs ≡ true → length xs ≤ 513
+  accepted_counts xs c = few_counts t.tree xs accepted_grown c
+
   pub accepted_bounds : (t.stage ≤ 65) × (t.round ≤ 1000)
   accepted_bounds =
       let s = accepted_settings in
@@ -123,8 +130,11 @@ module _ (t : Trainer) (h : accepted_of t ≡ true) where
       (λ q. tuning_bounded t s (and_left (tuning t) (leaf_holds t && try_holds_of t) q))
       (ending_bounded t s)
 
-  pub counting_from : (xs : List ℕ) → counts_hold t.tree xs ≡ true → Counting t xs
-  counting_from xs c = record { grown = accepted_grown; counts = c; stage = accepted_bounds.0; round = accepted_bounds.1 }
+  pub accepted_stage : t.stage ≤ 65
+  accepted_stage = accepted_bounds.0
+
+  pub accepted_round : t.round ≤ 1000
+  accepted_round = accepted_bounds.1
 
   -- phases 4 and 5
   asking : t.phase ≡ 4 → tuning t && (leaf_holds t && untried t) ≡ true
@@ -166,6 +176,9 @@ scoring_try t h q =
     }
 
 -- ---- at a leaf of a grown tree
+pub valid_here : (t : RuleTree) (i : ℕ) → grown_of t ≡ true → leaf_in t i ≡ true → valid_of (action_at t i) ≡ true
+valid_here t i g l = leaf_valid t (grown_facts t g) i l
+
 pub leaf_slot : (t : Trainer) → Scoring t → t.leaf < 513
 leaf_slot t s = omega (arith, leaf_below t.tree t.leaf s.leaf, (grown_facts t.tree s.grown).few)
 
@@ -175,18 +188,12 @@ leaf_whole t s = omega (arith, leaf_slot t s, grown_long t.tree (grown_facts t.t
 pub action_valid : (t : Trainer) → Scoring t → valid_of (leaf_action t) ≡ true
 action_valid t s = leaf_valid t.tree (grown_facts t.tree s.grown) t.leaf s.leaf
 
-pub valid_as : (x a : Action) → a ≡ x → valid_of x ≡ true → valid_of a ≡ true
-valid_as x a e h = ap valid_of e ∙ h
-
-pub k_in : (t : Trainer) (a : Action) → a ≡ leaf_action t → {k : ℕ} → k < length (candidates_of t.settings (leaf_action t)) → k < length (candidates_of t.settings a)
-k_in t a e {k} l = subst (λ (x : Action). k < length (candidates_of t.settings x)) (sym e) l
-
 -- ---- phase 5
 pub k_listed : (t : Trainer) → try_holds_of t ≡ true → t.k < length (candidates_of t.settings (leaf_action t))
 unfolding try_holds_of
 k_listed t h = ltb-true t.k (length (candidates_of t.settings (leaf_action t))) (and_left (ltb t.k (length (candidates_of t.settings (leaf_action t)))) (kept_holds t) h)
 
-kept_holds_lem : (t : Trainer) → try_holds_of t ≡ true → kept_holds t ≡ true
+pub kept_holds_lem : (t : Trainer) → try_holds_of t ≡ true → kept_holds t ≡ true
 unfolding try_holds_of
 kept_holds_lem t h = and_right (ltb t.k (length (candidates_of t.settings (leaf_action t)))) (kept_holds t) h
 
@@ -209,5 +216,30 @@ kept_listed t h =
 pub try_holds : (t : Trainer) → accepted_of t ≡ true → t.phase ≡ 5 → try_holds_of t ≡ true
 try_holds t h q = and_right (leaf_holds t) (try_holds_of t) (trying_leaf t h q)
 
+-- in the phases that want a score
+pub scoring_wanted : (t : Trainer) → accepted_of t ≡ true → wants_score t.phase ≡ true → Scoring t
+scoring_wanted t h w = go (eqb t.phase 4) refl
+  where
+    go : (b : Bool) → eqb t.phase 4 ≡ b → Scoring t
+    go true e = scoring_ask t h (eqb-true t.phase 4 e)
+    go false e = scoring_try t h (eqb-true t.phase 5 (rw e at w))
+
 pub score_five : (p : ℕ) → wants_score p ≡ true → (p ≡ 4 → ⊥) → p ≡ 5
 score_five p h n = eqb-true p 5 (rw (ne_eqb p 4 n) at h)
+
+-- ---- as the code has them
+module _ (t : Trainer) (h : accepted_of t ≡ true) where
+  pub wanted_leaf : wants_score t.phase ≡ true → leaf_in t.tree t.leaf ≡ true
+  wanted_leaf w = (scoring_wanted t h w).leaf
+
+  pub wanted_valid : wants_score t.phase ≡ true → valid_of (leaf_action t) ≡ true
+  wanted_valid w = action_valid t (scoring_wanted t h w)
+
+  pub try_listed : t.phase ≡ 5 → t.k < length (candidates_of t.settings (leaf_action t))
+  try_listed q = k_listed t (try_holds t h q)
+
+  pub try_kept : t.phase ≡ 5 → Kept t t.kept
+  try_kept q = kept_listed t (try_holds t h q)
+
+  pub counted_leaf : (xs : List ℕ) (u : Bool) (i : ℕ) → counts_hold t.tree xs ≡ true → Some i ≡ most_used_in t.tree xs u → i < length xs
+  counted_leaf xs u i c e = (most_used_leaf t.tree.nodes xs u (length xs) i (sym e)).below

@@ -4,6 +4,9 @@ use mathlib.Core.Bool.{Bool, true, false, not, ◌&&◌, ◌||◌, cond}
 use mathlib.Core.Logic.{inr}
 use mathlib.Core.List.{List}
 use Prim.Native.Nat.{ℕ, ◌+◌, ◌<◌, ◌≤◌}
+use Rattle.std.specs.Prelude.{Option, Some, None, Ok, Err, IfOk}
+use Rattle.refusal.specs.declared.Refusal.{Refusal}
+use Rattle.refusal.specs.declared.Refusal.TheVariants.{BadCounts, FullTree, NotAsked, NotGrown}
 use native.Mathlib.Omega.{arith}
 use borrow.Author.Tests.{lt-ltb, le-leb, eq-eqb, ne_eqb, eqb-true, eqb-false, ltb-true, ltb-false, leb-true}
 use lib.Dec.{eqb, leb, ltb}
@@ -16,8 +19,6 @@ use Rattle.remy.proofs.Ends.{ends_themselves}
 use Rattle.rule_tree.proofs.Plain.{ends_admitted_lem}
 use Rattle.rule_tree.specs.declared.Node.{Node}
 use Rattle.rule_tree.specs.declared.RuleTree.{RuleTree}
-use Rattle.rule_tree.specs.declared.Chosen.{Chosen}
-use Rattle.rule_tree.specs.declared.Chosen.TheVariants.{Leaf, Nobody, Refused}
 use Rattle.rule_tree.specs.Lists.{total}
 use Rattle.rule_tree.specs.Nodes.{node_at_of}
 use Rattle.rule_tree.specs.Change.{fresh_tree, with_action, with_mark, without_marks, split_at_of}
@@ -32,13 +33,13 @@ use Rattle.trainer.specs.declared.Trainer.{Trainer}
 use Rattle.trainer.specs.Settings.{actions_hold, settings_hold}
 use Rattle.trainer.specs.Candidates.{candidates_of, no_candidate}
 use Rattle.trainer.specs.State.{none, stand, at_leaf_of, trying, zero_bits_of, untried_in, untried, idle, kept_in, kept_holds, leaf_action, leaf_holds, try_holds_of, splitting, tuning, ending, box_holds, phase_holds, accepted_of}
-use Rattle.trainer.specs.Phases.{refuse, taken, begin_stage, begin_round, most_used_in, chosen_leaf, split_most_used, phase1, phase2, next_round, tune_next, phase3, phase6, marked, try_from, keeps, after_last, tried, phase5}
+use Rattle.trainer.specs.Phases.{begin_stage, begin_round, most_used_in, chosen_leaf, split_most_used, phase1, phase2, next_round, tune_next, phase3, phase6, marked, try_from, keeps, after_last, tried, phase5}
 use Rattle.trainer.specs.Calls.{started, wants_counts, wants_score, counts_step_of, answer_counts_of, score_step, answer_score_of}
 use Rattle.trainer.specs.Fields.{action_at, leaf_holds_in, Kept, Scoring}
 use Rattle.trainer.proofs.Holds.{and_left, and_right, parts}
 use Rattle.trainer.proofs.CandidateLaws.{candidate_valid, candidates_few}
 use Rattle.trainer.proofs.AcceptWays.{above, accepted_is, phase_is, phase_split, phase_choose, phase_end, leaf_is}
-use Rattle.trainer.proofs.AcceptedFacts.{accepted_settings, accepted_grown, accepted_box, accepted_phase, asking_tunes, trying_tunes, asking_leaf, trying_leaf, try_holds, scoring_try, leaf_whole, k_listed, kept_listed, score_five}
+use Rattle.trainer.proofs.AcceptedFacts.{accepted_settings, accepted_grown, accepted_box, accepted_phase, asking_tunes, trying_tunes, asking_leaf, trying_leaf, try_holds, scoring_try, leaf_whole, k_listed, kept_holds_lem, kept_listed, score_five}
 use Rattle.trainer.proofs.Steps.{kept_some}
 
 -- a tree of 513 slots, as every tree of the code is, with the settings' upper ends
@@ -99,7 +100,7 @@ unfolding ending
 ending_parts t h = eqb-true t.stage (t.settings.rule_splits + 1) (and_left (eqb t.stage (t.settings.rule_splits + 1)) _ h)
 
 -- ---- what the steps make is accepted
-nothing_kept : (best : Float) → kept_in best 0 none cube.zero ≡ true
+pub nothing_kept : (best : Float) → kept_in best 0 none cube.zero ≡ true
 unfolding kept_in to_bits
 nothing_kept best = refl
 
@@ -191,10 +192,9 @@ module _ (t : Trainer) (a : Held t) (xs : List ℕ) (c : counts_hold t.tree xs �
   set = accepted_settings t a.accepted
 
   most_leaf : leaf_in t.tree (chosen_leaf (most_used_in t.tree xs false)) ≡ true
-  unfolding chosen_leaf
   most_leaf =
       let m = chosen_found t.tree xs c (accepted_grown t a.accepted) in
-      ap (λ (w : Chosen). leaf_in t.tree (chosen_leaf w)) m.1 ∙ chosen_leaf_lem t.tree xs c false m.0 m.1
+      ap (λ (w : Option ℕ). leaf_in t.tree (chosen_leaf w)) m.1 ∙ chosen_leaf_lem t.tree xs c false m.0 m.1
 
   split_sound : t.tree.splits < 64 → Sound t.settings (split_most_used t.tree xs)
   unfolding split_at_of
@@ -215,34 +215,32 @@ module _ (t : Trainer) (a : Held t) (xs : List ℕ) (c : counts_hold t.tree xs �
     once true l = stand_two t.settings (split_most_used t.tree xs) set (split_sound l) t.stage stages.0 stages.1
     once false l = round_held t.settings (split_most_used t.tree xs) set (split_sound l) t.stage 0 stages.1
 
-    one_held : Held (phase1 t xs).trainer
+    one_held : IfOk (phase1 t xs) Held
     unfolding phase1
     one_held = go (ltb t.tree.splits 64) refl
       where
         go : (b : Bool) → ltb t.tree.splits 64 ≡ b
-            → Held
+            → IfOk
             (cond b
-            (taken
+            (Ok
             (cond (t.settings.drill_down && leb (used_in xs) 1) (stand t.settings (split_most_used t.tree xs) 2 t.stage 0)
             (begin_round t.settings (split_most_used t.tree xs) t.stage 0)))
-            (refuse 20 t)
-            ).trainer
+            (Err FullTree)) Held
         go true e = once (t.settings.drill_down && leb (used_in xs) 1) (ltb-true t.tree.splits 64 e)
-        go false e = a
+        go false e = tt
 
-    two-held : Held (phase2 t xs).trainer
+    two-held : IfOk (phase2 t xs) Held
     unfolding phase2
     two-held = go (ltb 1 (used_in xs)) (ltb t.tree.splits 64) refl
       where
         go : (u b : Bool) → ltb t.tree.splits 64 ≡ b
-            → Held
-            (cond u (taken (begin_round t.settings t.tree t.stage 0))
-            (cond b (taken (stand t.settings (split_most_used t.tree xs) 2 t.stage 0)) (refuse 20 t))
-            ).trainer
+            → IfOk
+            (cond u (Ok (begin_round t.settings t.tree t.stage 0))
+            (cond b (Ok (stand t.settings (split_most_used t.tree xs) 2 t.stage 0)) (Err FullTree))) Held
         go true b e = round_held t.settings t.tree set (held_sound t a) t.stage 0 stages.1
         go false true e =
             stand_two t.settings (split_most_used t.tree xs) set (split_sound (ltb-true t.tree.splits 64 e)) t.stage stages.0 stages.1
-        go false false e = a
+        go false false e = tt
 
   module _ (p : t.phase ≡ 3) where
     tunes : (t.stage ≤ t.settings.rule_splits) × (t.round < t.settings.optimization_rounds_per_split)
@@ -254,60 +252,59 @@ module _ (t : Trainer) (a : Held t) (xs : List ℕ) (c : counts_hold t.tree xs �
         (record { grown = clear_grown t.tree (accepted_grown t a.accepted); box = (held_sound t a).box; whole = clear_length t.tree ∙ a.whole })
         t.stage (t.round + 1) tunes.0
 
-    leaf_unmarked : (i : ℕ) → most_used_in t.tree xs true ≡ Leaf i → leaf_holds_in t.tree i ≡ true
+    leaf_unmarked : (i : ℕ) → most_used_in t.tree xs true ≡ Some i → leaf_holds_in t.tree i ≡ true
     unfolding leaf_holds_in
     leaf_unmarked i e =
         and_both (leaf_in t.tree i) (not (node_at_of t.tree.nodes i).optimized) (chosen_leaf_lem t.tree xs c true i e)
         (ap not (eligible_plain (node_at_of t.tree.nodes i) (most_used_leaf t.tree.nodes xs true (length xs) i e).asked))
 
-    three_held : Held (phase3 t xs).trainer
+    three_held : Held (phase3 t xs)
     unfolding tune_next
     three_held = go (most_used_in t.tree xs true) refl
       where
-        at : (i : ℕ) → most_used_in t.tree xs true ≡ Leaf i → (b : Bool)
+        at : (i : ℕ) → most_used_in t.tree xs true ≡ Some i → (b : Bool)
             → Held (cond b (next_round t) (at_leaf_of t.settings t.tree t.stage t.round i))
         at i e true = next_held
         at i e false = leaf_held t.settings t.tree set (held_sound t a) t.stage t.round i tunes.0 tunes.1 (leaf_unmarked i e)
 
-        go : (m : Chosen) → most_used_in t.tree xs true ≡ m → Held (tune_next t xs m)
-        go (Leaf i) e = at i e (eqb (get_or xs i 0) 0 && not (eqb (total xs) 0))
-        go Nobody e = next_held
-        go (Refused k) e = next_held
+        go : (m : Option ℕ) → most_used_in t.tree xs true ≡ m → Held (tune_next t xs m)
+        go (Some i) e = at i e (eqb (get_or xs i 0) 0 && not (eqb (total xs) 0))
+        go None e = next_held
 
-  six_held : 3 ≤ t.phase → t.phase < 8 → (t.phase ≡ 3 → ⊥) → (t.phase ≡ 4 → ⊥) → (t.phase ≡ 5 → ⊥) → Held (phase6 t).trainer
+  six_held : 3 ≤ t.phase → t.phase < 8 → (t.phase ≡ 3 → ⊥) → (t.phase ≡ 4 → ⊥) → (t.phase ≡ 5 → ⊥) → Held (phase6 t)
   six_held l m x y z =
       stand_seven t.settings t.tree set (held_sound t a) t.stage
       (ending_parts t (phase_end t.phase _ _ _ _ _ l m x y z ∙ accepted_phase t a.accepted))
 
-  step_held : wants_counts t.phase ≡ true → Held (counts_step_of t xs).trainer
+  step_held : wants_counts t.phase ≡ true → IfOk (counts_step_of t xs) Held
   unfolding counts_step_of
   step_held w = one (eqb t.phase 1) refl
     where
-      three : (b : Bool) → eqb t.phase 3 ≡ b → eqb t.phase 1 ≡ false → eqb t.phase 2 ≡ false → Held (cond b (phase3 t xs) (phase6 t)).trainer
+      three : (b : Bool) → eqb t.phase 3 ≡ b → eqb t.phase 1 ≡ false → eqb t.phase 2 ≡ false → IfOk {E = Refusal} (cond b (Ok (phase3 t xs)) (Ok (phase6 t))) Held
       three true e f g = three_held (eqb-true t.phase 3 e)
       three false e f g =
           let p : t.phase ≡ 6 = eqb-true t.phase 6 (rw (f, g, e) at w) in
           six_held (omega arith) (omega arith) (λ z. absurd (omega arith)) (λ z. absurd (omega arith)) (λ z. absurd (omega arith))
 
-      two : (b : Bool) → eqb t.phase 2 ≡ b → eqb t.phase 1 ≡ false → Held (cond b (phase2 t xs) (cond (eqb t.phase 3) (phase3 t xs) (phase6 t))).trainer
+      two : (b : Bool) → eqb t.phase 2 ≡ b → eqb t.phase 1 ≡ false → IfOk (cond b (phase2 t xs) (cond (eqb t.phase 3) (Ok (phase3 t xs)) (Ok (phase6 t)))) Held
       two true e f = let p = eqb-true t.phase 2 e in two-held (omega arith) (omega arith)
       two false e f = three (eqb t.phase 3) refl f e
 
       one : (b : Bool) → eqb t.phase 1 ≡ b
-          → Held (cond b (phase1 t xs) (cond (eqb t.phase 2) (phase2 t xs) (cond (eqb t.phase 3) (phase3 t xs) (phase6 t)))).trainer
+          → IfOk (cond b (phase1 t xs) (cond (eqb t.phase 2) (phase2 t xs) (cond (eqb t.phase 3) (Ok (phase3 t xs)) (Ok (phase6 t))))) Held
       one true e = let p = eqb-true t.phase 1 e in one_held (omega arith) (omega arith)
       one false e = two (eqb t.phase 2) refl e
 
-pub counts_held : (t : Trainer) (xs : List ℕ) → Held t → Held (answer_counts_of t xs).trainer
+pub counts_held : (t : Trainer) (xs : List ℕ) → Held t → IfOk (answer_counts_of t xs) Held
 unfolding answer_counts_of
 counts_held t xs a = go (accepted_of t) (wants_counts t.phase) (counts_hold t.tree xs) refl refl
   where
     go : (b w c : Bool) → wants_counts t.phase ≡ w → counts_hold t.tree xs ≡ c
-        → Held (cond b (cond w (cond c (counts_step_of t xs) (refuse 4 t)) (refuse 21 t)) (refuse 10 t)).trainer
+        → IfOk (cond b (cond w (cond c (counts_step_of t xs) (Err BadCounts)) (Err NotAsked)) (Err NotGrown)) Held
     go true true true e f = step_held t a xs f e
-    go true true false e f = a
-    go true false c e f = a
-    go false w c e f = a
+    go true true false e f = tt
+    go true false c e f = tt
+    go false w c e f = tt
 
 -- ---- an answer with a score
 -- what a trainer at a leaf has
@@ -382,11 +379,11 @@ module _ (t : Trainer) (x : AtLeaf t) where
             (ltb-true (t.k + 1) (length (candidates_of t.settings (leaf_action t))) e) m
         go false e = last_held kept score k
 
-kept_new : (best : Float) (k : ℕ) (x : Float) → k ≤ 4096 → lt best x ≡ true → kept_in best (k + 1) k x ≡ true
+pub kept_new : (best : Float) (k : ℕ) (x : Float) → k ≤ 4096 → lt best x ≡ true → kept_in best (k + 1) k x ≡ true
 unfolding kept_in
 kept_new best k x l h = rw (ne_eqb k none (λ e. absurd (omega arith)), lt-ltb k (k + 1) (omega arith)) h
 
-kept_still : (best : Float) (k kept : ℕ) (score : Float) → kept_in best k kept score ≡ true → kept_in best (k + 1) kept score ≡ true
+pub kept_still : (best : Float) (k kept : ℕ) (score : Float) → kept_in best k kept score ≡ true → kept_in best (k + 1) kept score ≡ true
 unfolding kept_in
 kept_still best k kept score h = go (eqb kept none) refl h
   where
@@ -396,10 +393,6 @@ kept_still best k kept score h = go (eqb kept none) refl h
     go false e q =
         let l = ltb-true kept k (and_left (ltb kept k) (lt best score) q) in
         and_both (ltb kept (k + 1)) (lt best score) (lt-ltb kept (k + 1) (omega arith)) (and_right (ltb kept k) (lt best score) q)
-
-kept_holds_lem : (t : Trainer) → try_holds_of t ≡ true → kept_holds t ≡ true
-unfolding try_holds_of
-kept_holds_lem t h = and_right (ltb t.k (length (candidates_of t.settings (leaf_action t)))) (kept_holds t) h
 
 module _ (t : Trainer) (a : Held t) where
   four_held : t.phase ≡ 4 → (x : Float) → Held (try_from t t.tree x)
@@ -440,11 +433,11 @@ module _ (t : Trainer) (a : Held t) where
       go true e = four_held (eqb-true t.phase 4 e) x
       go false e = five_held (score_five t.phase w (eqb-false t.phase 4 e)) x
 
-pub score_held : (t : Trainer) (x : Float) → Held t → Held (answer_score_of t x).trainer
+pub score_held : (t : Trainer) (x : Float) → Held t → IfOk (answer_score_of t x) Held
 unfolding answer_score_of
 score_held t x a = go (accepted_of t) (wants_score t.phase) refl
   where
-    go : (b w : Bool) → wants_score t.phase ≡ w → Held (cond b (cond w (taken (score_step t x)) (refuse 21 t)) (refuse 10 t)).trainer
+    go : (b w : Bool) → wants_score t.phase ≡ w → IfOk (cond b (cond w (Ok (score_step t x)) (Err NotAsked)) (Err NotGrown)) Held
     go true true e = scored_held t a x e
-    go true false e = a
-    go false w e = a
+    go true false e = tt
+    go false w e = tt

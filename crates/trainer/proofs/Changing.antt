@@ -2,6 +2,8 @@
 use mathlib.Core.Path.{◌≡◌, refl, sym, ap, subst, ◌∙◌}
 use mathlib.Core.Bool.{Bool, true, false, ◌&&◌, cond}
 use Prim.Native.Nat.{ℕ, ◌<◌, ◌≤◌}
+use Rattle.std.specs.Prelude.{Ok, Err, IfOk}
+use Rattle.refusal.specs.declared.Refusal.TheVariants.{BadSettings, NotGrown, UnfitSettings}
 use native.Mathlib.Omega.{arith}
 use borrow.Author.Tests.{ne_eqb, eqb-true, eqb-false, leb-true, ltb-true}
 use lib.Dec.{T, eqb, leb}
@@ -13,7 +15,6 @@ use Rattle.trainer.specs.declared.settings.Settings.{Settings}
 use Rattle.trainer.specs.declared.Trainer.{Trainer}
 use Rattle.trainer.specs.Settings.{settings_hold}
 use Rattle.trainer.specs.State.{none, stand, at_leaf_of, zero_bits_of, untried_in, untried, idle, leaf_holds, try_holds_of, splitting, tuning, accepted_of}
-use Rattle.trainer.specs.Phases.{refuse, taken}
 use Rattle.trainer.specs.Calls.{wants_score}
 use Rattle.trainer.specs.Change.{phase_fits, round_fits, settings_fit, changed_to, change_of}
 use Rattle.trainer.proofs.Holds.{and_left, and_right}
@@ -90,10 +91,10 @@ module _ (t : Trainer) (a : Held t) (s : Settings) (h : settings_hold s ≡ true
   splits l m = phase_split t.phase _ _ _ _ _ l m ∙ accepted_phase t a.accepted
 
   stands : wants_score t.phase ≡ false → changed_to t s ≡ stand s t.tree t.phase t.stage t.round
-  stands w = sym (changed_stands t s false _ (sym w) refl refl)
+  stands w = changed_stands t s w
 
   asks : wants_score t.phase ≡ true → changed_to t s ≡ at_leaf_of s t.tree t.stage t.round t.leaf
-  asks w = sym (changed_asks t s true _ (sym w) refl refl)
+  asks w = changed_asks t s w
 
   split_held : 1 ≤ t.phase → t.phase < 3 → (p : ℕ) → t.phase ≡ p → wants_score t.phase ≡ false
       → Held (stand s t.tree p t.stage 0) → Held (changed_to t s)
@@ -133,16 +134,16 @@ module _ (t : Trainer) (a : Held t) (s : Settings) (h : settings_hold s ≡ true
       (λ n6. decide t.phase 7 (λ e. absurd (done_seven t.phase e f.phase))
       (λ n7. absurd (no_phase t.phase _ _ _ _ _ (accepted_phase t a.accepted) n1 n2 n3 n4 n5 n6 n7))))))))
 
-pub change_held : (t : Trainer) (s : Settings) → Held t → Held (change_of t s).trainer
+pub change_held : (t : Trainer) (s : Settings) → Held t → IfOk (change_of t s) Held
 unfolding change_of
 change_held t s a = go (accepted_of t) (settings_hold s) (settings_fit t s) refl refl
   where
     go : (b c d : Bool) → settings_hold s ≡ c → settings_fit t s ≡ d
-        → Held (cond b (cond c (cond d (taken (changed_to t s)) (refuse 27 t)) (refuse 2 t)) (refuse 10 t)).trainer
+        → IfOk (cond b (cond c (cond d (Ok (changed_to t s)) (Err UnfitSettings)) (Err BadSettings)) (Err NotGrown)) Held
     go true true true e f = changed_held t a s e (fit_parts t s f)
-    go true true false e f = a
-    go true false d e f = a
-    go false c d e f = a
+    go true true false e f = tt
+    go true false d e f = tt
+    go false c d e f = tt
 
 -- ---- "keeps tree, stage and round"; "but changes no node"
 pub record Kept (t : Trainer) (s : Settings) : Type 0 where
@@ -193,7 +194,7 @@ with_settings t s =
       kept_score = t.kept_score;
     }
 
-zero_bits : (x : Float) → T (fits binary64 x) → zero_bits_of x ≡ true → x ≡ cube.zero
+pub zero_bits : (x : Float) → T (fits binary64 x) → zero_bits_of x ≡ true → x ≡ cube.zero
 unfolding of_bits
 zero_bits x h e = sym (bits_back x h) ∙ ap (of_bits binary64) (eqb-true (to_bits binary64 x) 0 e)
 
@@ -242,4 +243,4 @@ module _ (t : Trainer) (s : Settings) (b : T (fits binary64 t.best)) (y : T (fit
       early = rw (ne_eqb t.phase 4 (λ e. absurd (omega arith)), ne_eqb t.phase 5 (λ e. absurd (omega arith)))
 
       waits : wants_score t.phase ≡ false → idle t ≡ true → changed_to t s ≡ with_settings t s
-      waits w i = sym (changed_stands t s false _ (sym w) refl refl) ∙ idle_stays i
+      waits w i = changed_stands t s w ∙ idle_stays i

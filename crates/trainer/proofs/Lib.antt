@@ -1,10 +1,10 @@
 pub mod Lists
 pub mod Product
 pub mod Axis
-pub mod Whole
 pub mod Holds
-pub mod Pick
 pub mod CandidateLaws
+pub mod Pick
+pub mod PhaseLaws
 pub mod AcceptWays
 pub mod AcceptedFacts
 pub mod Steps

@@ -7,14 +7,15 @@ use native.Mathlib.Omega.{arith}
 use native.Mathlib.Nat.{mod-lt, mul-zero}
 use lib.ListN.{length, get_or, length-map, get_or-map}
 use lib.IntN.{ℤ, pos, ◌+ℤ◌}
-use lib.Ieee.{Float, nan, binary64, add}
+use lib.Signed.{le_z}
+use lib.Ieee.{Float, nan, binary64, add, le}
 use Rattle.remy.specs.declared.action.Action.{Action}
 use Rattle.remy.specs.Action.{action_of}
 use Rattle.trainer.specs.declared.settings.Settings.{Settings}
 use Rattle.trainer.specs.Candidates.{flat_map, filter, inside_of, candidates_of}
 use Rattle.trainer.specs.Settings.{multiplier_axis, increment_axis, delay_axis}
 use Rattle.trainer.specs.Candidates.{float_changes, whole_changes}
-use Rattle.trainer.specs.Axes.{float_inside, whole_inside, multiplier_sums, increment_sums, delay_sums}
+use Rattle.trainer.specs.Axes.{within, multiplier_sums, increment_sums, delay_sums}
 use Rattle.trainer.proofs.Lists.{by_axis, map_flat, flat_length, flat_at, get_d_any}
 
 abbrev pub row : List Float → Float → ℤ → List Action
@@ -97,8 +98,8 @@ pub candidates_are : (s : Settings) (a : Action)
     → candidates_of s a ≡ product (multiplier_sums s a) (increment_sums s a) (delay_sums s a)
 unfolding candidates_of inside_of
 candidates_are s a =
-    in_product (inside_of s) (float_inside s.min_action.window_multiplier s.max_action.window_multiplier)
-    (whole_inside s.min_action.window_increment s.max_action.window_increment)
-    (float_inside s.min_action.intersend_delay.0 s.max_action.intersend_delay.0)
+    in_product (inside_of s) (within le s.min_action.window_multiplier s.max_action.window_multiplier)
+    (within le_z s.min_action.window_increment s.max_action.window_increment)
+    (within le s.min_action.intersend_delay.0 s.max_action.intersend_delay.0)
     (add binary64 a.window_multiplier) (◌+ℤ◌ a.window_increment) (add binary64 a.intersend_delay.0)
     (λ m i d. refl) (float_changes (delay_axis 8 s)) (float_changes (multiplier_axis 8 s)) (whole_changes (increment_axis 8 s))

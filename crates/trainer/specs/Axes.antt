@@ -1,48 +1,62 @@
 -- What the work behind the candidates keeps of an axis: the sums of an action's part and each change, kept where within min..max.
-use Rattle.std.specs.Prelude.{◌≡◌, Bool, true, ◌&&◌, List, map, ℕ, ◌≤◌, take, ℤ, pos, negsuc, ◌+ℤ◌, Float}
+use Rattle.std.specs.Prelude.{◌≡◌, Bool, true, ◌&&◌, List, map, ℕ, ◌≤◌, ℤ, pos, negsuc, neg_ℤ, ◌+ℤ◌, Float}
 use Rattle.std.specs.Int.Signed.{le_z}
 use Rattle.std.specs.Float.{binary64}
-use Rattle.std.specs.Float.Ieee.{add, le}
+use Rattle.std.specs.Float.Ieee.{add, neg, le, of_int}
 use Rattle.remy.specs.declared.action.Action.{Action}
 use Rattle.trainer.specs.declared.settings.Settings.{Settings}
-use Rattle.trainer.specs.declared.inner.axes.FloatSums.{FloatSums}
-use Rattle.trainer.specs.declared.inner.axes.WholeSums.{WholeSums}
+use Rattle.trainer.specs.declared.inner.axis.Axis.{Axis}
 use Rattle.trainer.specs.Settings.{multiplier_axis, increment_axis, delay_axis}
-use Rattle.trainer.specs.Candidates.{filter, float_changes, whole_changes}
+use Rattle.trainer.specs.Candidates.{filter, changes}
 
 -- both ends included
-abbrev pub float_inside : Float → Float → Float → Bool
-float_inside low high v = le low v && le v high
+abbrev pub within : {A : Type 0} → (A → A → Bool) → A → A → A → Bool
+within at_most low high v = at_most low v && at_most v high
 
-abbrev pub whole_inside : ℤ → ℤ → ℤ → Bool
-whole_inside low high v = le_z low v && le_z v high
+-- the sums of a part and the changes of an axis that are kept
+abbrev pub kept_sums : {A : Type 0} → (A → A → Bool) → (A → A → A) → (A → A) → A → A → A → List A → List A
+kept_sums at_most sum minus part low high xs = filter (within at_most low high) (map (sum part) (changes minus xs))
 
--- the sums of `at` and the changes of an axis that are kept
 abbrev pub kept_floats : Float → Float → Float → List Float → List Float
-kept_floats at low high axis = filter (float_inside low high) (map (add binary64 at) (float_changes axis))
+kept_floats part low high xs = kept_sums le (add binary64) neg part low high xs
 
 abbrev pub kept_wholes : ℤ → ℤ → ℤ → List ℤ → List ℤ
-kept_wholes at low high axis = filter (whole_inside low high) (map (◌+ℤ◌ at) (whole_changes axis))
-
--- the first `count` values of a store are the list xs
-pub record HoldsFloats (k : FloatSums) (xs : List Float) : Type 0 where
-  pub few : k.count ≤ 16
-  pub list : take k.count k.values ≡ xs
-
-pub record HoldsWholes (k : WholeSums) (xs : List ℤ) : Type 0 where
-  pub few : k.count ≤ 16
-  pub list : take k.count k.values ≡ xs
+kept_wholes part low high xs = kept_sums le_z ◌+ℤ◌ neg_ℤ part low high xs
 
 -- 0 to b
 abbrev pub Upto : ℕ → ℤ → Type 0
 Upto b (pos n) = n ≤ b
 Upto b (negsuc n) = ⊥
 
--- an axis of whole numbers whose products fit 32 bits
-pub record WholeFits (times : ℕ) (first max : ℤ) : Type 0 where
-  pub factor : times ≤ 16
-  pub start : Upto 65536 first
+-- the factor and the most of an axis of whole numbers whose products fit 32 bits
+pub record WholeScale (factor max : ℤ) : Type 0 where
+  pub few : Upto 16 factor
   pub most : le_z max (pos 65536) ≡ true
+
+-- the axes as the code holds them
+abbrev pub multipliers : Settings → Axis Float
+multipliers s =
+    record {
+      first = s.initial_action_change.window_multiplier;
+      factor = of_int binary64 (pos s.action_change_multiplier);
+      max = s.max_action_change.window_multiplier;
+    }
+
+abbrev pub increments : Settings → Axis ℤ
+increments s =
+    record {
+      first = s.initial_action_change.window_increment;
+      factor = pos s.action_change_multiplier;
+      max = s.max_action_change.window_increment;
+    }
+
+abbrev pub delays : Settings → Axis Float
+delays s =
+    record {
+      first = s.initial_action_change.intersend_delay.0;
+      factor = of_int binary64 (pos s.action_change_multiplier);
+      max = s.max_action_change.intersend_delay.0;
+    }
 
 -- the three axes of a change to an action, as they are kept
 abbrev pub multiplier_sums : Settings → Action → List Float

@@ -1,15 +1,15 @@
 -- 01, "Candidates are possible_improvements": the list, and the call that gives one of it.
-use Rattle.std.specs.Prelude.{Bool, ◌&&◌, cond, List, [], ◌∷◌, ◌++◌, map, ℕ, length, get_or, ltb, ℤ, pos, neg_ℤ, ◌+ℤ◌, Float}
+use Rattle.std.specs.Prelude.{Bool, ◌&&◌, cond, List, [], ◌∷◌, ◌++◌, map, ℕ, length, get_or, ltb, ℤ, pos, neg_ℤ, ◌+ℤ◌, Float, Some, None, Result, Ok}
 use Rattle.std.specs.Int.Signed.{le_z}
 use Rattle.std.specs.Float.{nan, binary64}
 use Rattle.std.specs.Float.Ieee.{add, neg, le}
-use Rattle.refusal.specs.Guards.{Test, test, guarded}
-use Rattle.refusal.specs.Numbers.{bad_settings, not_admitted}
+use Rattle.refusal.specs.declared.Refusal.{Refusal}
+use Rattle.refusal.specs.declared.Refusal.TheVariants.{BadSettings, NotAdmitted}
+use Rattle.refusal.specs.Guards.{Check, check, checked}
 use Rattle.remy.specs.declared.action.Action.{Action}
 use Rattle.remy.specs.Action.{action_of, valid_of}
 use Rattle.trainer.specs.declared.settings.Settings.{Settings}
 use Rattle.trainer.specs.declared.candidates.Candidate.{Candidate}
-use Rattle.trainer.specs.declared.candidates.Candidate.TheVariants.{At, Past, Refused}
 use Rattle.trainer.specs.Settings.{multiplier_axis, increment_axis, delay_axis, settings_hold}
 
 unfoldable pub flat_map : {A B : Type 0} → (A → List B) → List A → List B
@@ -21,11 +21,14 @@ filter keep [] = []
 filter keep (x ∷ xs) = cond (keep x) (x ∷ filter keep xs) (filter keep xs)
 
 -- "each axis gives v, -v in turn"
+abbrev pub changes : {A : Type 0} → (A → A) → List A → List A
+changes {A} minus xs = flat_map (λ (v : A). v ∷ minus v ∷ []) xs
+
 abbrev pub float_changes : List Float → List Float
-float_changes xs = flat_map (λ (v : Float). v ∷ neg v ∷ []) xs
+float_changes xs = changes neg xs
 
 abbrev pub whole_changes : List ℤ → List ℤ
-whole_changes xs = flat_map (λ (v : ℤ). v ∷ neg_ℤ v ∷ []) xs
+whole_changes xs = changes neg_ℤ xs
 
 -- an action changed on each axis
 abbrev pub changed : Action → Float → ℤ → Float → Action
@@ -56,12 +59,12 @@ no_candidate = action_of nan (pos 0) nan
 
 -- "gives the list's length with candidate k, or with none where k is past the end"
 unfoldable pub pick_of : List Action → ℕ → Candidate
-pick_of xs k = cond (ltb k (length xs)) (At (length xs) (get_or xs k no_candidate)) (Past (length xs))
+pick_of xs k = record { length = length xs; action = cond (ltb k (length xs)) (Some (get_or xs k no_candidate)) None }
 
 -- "2, 1 in the candidate call"
-abbrev pub candidate_order : Settings → Action → List Test
-candidate_order s a = test (settings_hold s) bad_settings ∷ test (valid_of a) not_admitted ∷ []
+abbrev pub candidate_order : Settings → Action → List Check
+candidate_order s a = check (settings_hold s) BadSettings ∷ check (valid_of a) NotAdmitted ∷ []
 
-unfoldable pub candidate_of : Settings → Action → ℕ → Candidate
+unfoldable pub candidate_of : Settings → Action → ℕ → Result Candidate Refusal
 unfolding pick_of
-candidate_of s a k = guarded (candidate_order s a) Refused (pick_of (candidates_of s a) k)
+candidate_of s a k = checked (candidate_order s a) (Ok (pick_of (candidates_of s a) k))

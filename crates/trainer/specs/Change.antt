@@ -1,14 +1,13 @@
 -- 02, wish 10: new settings in a running training.
-use Rattle.std.specs.Prelude.{Bool, not, ◌&&◌, ◌||◌, cond, List, [], ◌∷◌, ℕ, eqb, ltb, leb}
-use Rattle.refusal.specs.Numbers.{bad_settings, not_grown, unfit_settings}
-use Rattle.refusal.specs.Guards.{Test, test, guarded}
+use Rattle.std.specs.Prelude.{Bool, not, ◌&&◌, ◌||◌, cond, List, [], ◌∷◌, ℕ, eqb, ltb, leb, Result, Ok}
+use Rattle.refusal.specs.declared.Refusal.{Refusal}
+use Rattle.refusal.specs.declared.Refusal.TheVariants.{BadSettings, NotGrown, UnfitSettings}
+use Rattle.refusal.specs.Guards.{Check, check, checked}
 use Rattle.remy.specs.Cube.{point_equal}
 use Rattle.trainer.specs.declared.settings.Settings.{Settings}
 use Rattle.trainer.specs.declared.Trainer.{Trainer}
-use Rattle.trainer.specs.declared.Answered.{Answered}
 use Rattle.trainer.specs.Settings.{settings_hold}
 use Rattle.trainer.specs.State.{stand, at_leaf_of, accepted_of}
-use Rattle.trainer.specs.Phases.{refuse, taken}
 use Rattle.trainer.specs.Calls.{wants_score}
 
 -- "if the phase is 6 or 7"
@@ -39,9 +38,9 @@ changed_to t s =
     (stand s t.tree t.phase t.stage t.round)
 
 -- "After 10, bad settings come first; then 27"
-abbrev pub change_order : Trainer → Settings → List Test
-change_order t s = test (accepted_of t) not_grown ∷ test (settings_hold s) bad_settings ∷ test (settings_fit t s) unfit_settings ∷ []
+abbrev pub change_order : Trainer → Settings → List Check
+change_order t s = check (accepted_of t) NotGrown ∷ check (settings_hold s) BadSettings ∷ check (settings_fit t s) UnfitSettings ∷ []
 
-unfoldable pub change_of : Trainer → Settings → Answered
+unfoldable pub change_of : Trainer → Settings → Result Trainer Refusal
 unfolding settings_fit changed_to
-change_of t s = guarded (change_order t s) (λ k. refuse k t) (taken (changed_to t s))
+change_of t s = checked (change_order t s) (Ok (changed_to t s))

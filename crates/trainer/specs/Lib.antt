@@ -1,6 +1,7 @@
 pub mod Settings
 pub mod Candidates
 pub mod Axes
+pub mod Phase
 pub mod State
 pub mod Phases
 pub mod Calls

@@ -1,26 +1,19 @@
 -- 01, "the plain trainer": one step for each phase, over a trainer that is accepted.
-use Rattle.std.specs.Prelude.{Bool, true, false, not, ◌&&◌, ◌||◌, cond, List, ℕ, ◌+◌, length, get_or, eqb, ltb, leb, Float}
+use Rattle.std.specs.Prelude.{Bool, true, false, not, ◌&&◌, ◌||◌, cond, List, [], ◌∷◌, ℕ, ◌+◌, length, get_or, eqb, ltb, leb, Float, Option, Some, None, unwrap_or, Result, Ok}
 use Rattle.std.specs.Float.Ieee.{le, lt}
-use Rattle.refusal.specs.Numbers.{full_tree}
+use Rattle.refusal.specs.declared.Refusal.{Refusal}
+use Rattle.refusal.specs.declared.Refusal.TheVariants.{FullTree}
+use Rattle.refusal.specs.Guards.{Check, check, checked}
 use Rattle.remy.specs.Cube as cube
 use Rattle.rule_tree.specs.declared.RuleTree.{RuleTree}
-use Rattle.rule_tree.specs.declared.Chosen.{Chosen}
-use Rattle.rule_tree.specs.declared.Chosen.TheVariants.{Leaf, Nobody, Refused}
 use Rattle.rule_tree.specs.Lists.{total}
-use Rattle.rule_tree.specs.Nodes.{node_at_of, action_in}
+use Rattle.rule_tree.specs.Nodes.{node_at_of, action_in, most_splits}
 use Rattle.rule_tree.specs.Counts.{used_in, most_used}
 use Rattle.rule_tree.specs.Change.{with_action, with_mark, without_marks, split_at_of}
 use Rattle.trainer.specs.declared.settings.Settings.{Settings}
 use Rattle.trainer.specs.declared.Trainer.{Trainer}
-use Rattle.trainer.specs.declared.Answered.{Answered}
 use Rattle.trainer.specs.Candidates.{candidates_of, no_candidate}
 use Rattle.trainer.specs.State.{none, stand, at_leaf_of, trying, leaf_action}
-
-abbrev pub refuse : ℕ → Trainer → Answered
-refuse n t = record { refused = n; trainer = t }
-
-abbrev pub taken : Trainer → Answered
-taken t = record { refused = 0; trainer = t }
 
 -- "Begin stage i, round 0: above rule_splits phase 6; i = 0 begin round; else phase 1", for an i above 0
 unfoldable pub begin_stage : Settings → RuleTree → ℕ → Trainer
@@ -32,53 +25,53 @@ unfolding begin_stage
 begin_round s t i round = cond (ltb round s.optimization_rounds_per_split) (stand s t 3 i round) (begin_stage s t (i + 1))
 
 -- the most used leaf, of all or of the unmarked
-abbrev pub most_used_in : RuleTree → List ℕ → Bool → Chosen
+abbrev pub most_used_in : RuleTree → List ℕ → Bool → Option ℕ
 most_used_in t xs unmarked = most_used t.nodes xs unmarked (length xs)
 
-unfoldable pub chosen_leaf : Chosen → ℕ
-chosen_leaf (Leaf i) = i
-chosen_leaf Nobody = 0
-chosen_leaf (Refused k) = 0
+abbrev pub chosen_leaf : Option ℕ → ℕ
+chosen_leaf o = unwrap_or o 0
 
 -- "split the most used"
 abbrev pub split_most_used : RuleTree → List ℕ → RuleTree
 split_most_used t xs = split_at_of t (chosen_leaf (most_used_in t xs false))
 
+-- 20: the tree has no room for a split
+abbrev pub room_order : Trainer → List Check
+room_order t = check (ltb t.tree.splits most_splits) FullTree ∷ []
+
 -- "1, counts: split the most used; if drill is on and at most one entry is above 0, phase 2, else begin round"; 20
-unfoldable pub phase1 : Trainer → List ℕ → Answered
-unfolding begin_round chosen_leaf
+unfoldable pub phase1 : Trainer → List ℕ → Result Trainer Refusal
+unfolding begin_round
 phase1 t xs =
     let tree = split_most_used t.tree xs in
-    cond (ltb t.tree.splits 64)
-    (taken (cond (t.settings.drill_down && leb (used_in xs) 1) (stand t.settings tree 2 t.stage 0) (begin_round t.settings tree t.stage 0)))
-    (refuse full_tree t)
+    checked (room_order t)
+    (Ok (cond (t.settings.drill_down && leb (used_in xs) 1) (stand t.settings tree 2 t.stage 0) (begin_round t.settings tree t.stage 0)))
 
 -- "2, counts: more than one above 0, begin round; else split the most used, stay"; 20
-unfoldable pub phase2 : Trainer → List ℕ → Answered
-unfolding begin_round chosen_leaf
+unfoldable pub phase2 : Trainer → List ℕ → Result Trainer Refusal
+unfolding begin_round
 phase2 t xs =
-    cond (ltb 1 (used_in xs)) (taken (begin_round t.settings t.tree t.stage 0))
-    (cond (ltb t.tree.splits 64) (taken (stand t.settings (split_most_used t.tree xs) 2 t.stage 0)) (refuse full_tree t))
+    cond (ltb 1 (used_in xs)) (Ok (begin_round t.settings t.tree t.stage 0))
+    (checked (room_order t) (Ok (stand t.settings (split_most_used t.tree xs) 2 t.stage 0)))
 
 -- "clear marks, round+1, begin round"
 abbrev pub next_round : Trainer → Trainer
 next_round t = begin_round t.settings (without_marks t.tree) t.stage (t.round + 1)
 
 -- "None, or its count is 0 and the total isn't: clear marks, round+1, begin round. Else phase 4"
-unfoldable pub tune_next : Trainer → List ℕ → Chosen → Trainer
+unfoldable pub tune_next : Trainer → List ℕ → Option ℕ → Trainer
 unfolding begin_round
-tune_next t xs (Leaf i) =
+tune_next t xs (Some i) =
     cond (eqb (get_or xs i 0) 0 && not (eqb (total xs) 0)) (next_round t) (at_leaf_of t.settings t.tree t.stage t.round i)
-tune_next t xs Nobody = next_round t
-tune_next t xs (Refused k) = next_round t
+tune_next t xs None = next_round t
 
 -- "3, counts: most used unmarked leaf"
-abbrev pub phase3 : Trainer → List ℕ → Answered
-phase3 t xs = taken (tune_next t xs (most_used_in t.tree xs true))
+abbrev pub phase3 : Trainer → List ℕ → Trainer
+phase3 t xs = tune_next t xs (most_used_in t.tree xs true)
 
 -- "6, counts: phase 7, done"
-abbrev pub phase6 : Trainer → Answered
-phase6 t = taken (stand t.settings t.tree 7 t.stage 0)
+abbrev pub phase6 : Trainer → Trainer
+phase6 t = stand t.settings t.tree 7 t.stage 0
 
 -- "mark, phase 3"
 abbrev pub marked : Trainer → RuleTree → Trainer

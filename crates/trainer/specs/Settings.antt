@@ -9,13 +9,15 @@ use Rattle.rule_tree.specs.Grown.{ends_hold}
 use Rattle.trainer.specs.declared.settings.Settings.{Settings}
 
 -- "An axis lists initial, then times multiplier each, while <= max change": its first n values from x on
-unfoldable pub float_axis : ℕ → Float → Float → Float → List Float
-float_axis zero times x max = []
-float_axis (suc n) times x max = cond (le x max) (x ∷ float_axis n times (mul binary64 times x) max) []
+unfoldable pub axis : {A : Type 0} → (A → A → Bool) → (A → A) → ℕ → A → A → List A
+axis at_most times zero x max = []
+axis at_most times (suc n) x max = cond (at_most x max) (x ∷ axis at_most times n (times x) max) []
 
-unfoldable pub whole_axis : ℕ → ℤ → ℤ → ℤ → List ℤ
-whole_axis zero times x max = []
-whole_axis (suc n) times x max = cond (le_z x max) (x ∷ whole_axis n times (times *ℤ x) max) []
+abbrev pub float_axis : ℕ → Float → Float → Float → List Float
+float_axis n times x max = axis le (mul binary64 times) n x max
+
+abbrev pub whole_axis : ℕ → ℤ → ℤ → ℤ → List ℤ
+whole_axis n times x max = axis le_z (◌*ℤ◌ times) n x max
 
 -- the three axes, up to n values each
 abbrev pub multiplier_axis : ℕ → Settings → List Float
@@ -50,7 +52,7 @@ changes_hold s =
 
 -- "more than 8 values is refused, none is allowed": of nine values the ninth is not there
 unfoldable pub axes_hold : Settings → Bool
-unfolding float_axis whole_axis
+unfolding axis
 axes_hold s =
     leb (length (multiplier_axis 9 s)) 8 && (leb (length (increment_axis 9 s)) 8 && leb (length (delay_axis 9 s)) 8)
 

@@ -1,5 +1,5 @@
 -- A trainer's state, and which states are accepted: 01's "Accepted", and refusal 10 of a trainer.
-use Rattle.std.specs.Prelude.{Bool, false, not, ◌&&◌, ◌||◌, cond, ℕ, ◌+◌, length, eqb, ltb, leb, Float}
+use Rattle.std.specs.Prelude.{Bool, false, not, ◌&&◌, ◌||◌, cond, ℕ, ◌+◌, length, eqb, ltb, leb, Float, Option, Some, None}
 use Rattle.std.specs.Float.{binary64}
 use Rattle.std.specs.Float.Ieee.{to_bits, lt}
 use Rattle.remy.specs.declared.action.Action.{Action}
@@ -16,6 +16,9 @@ use Rattle.trainer.specs.Candidates.{candidates_of}
 -- "kept (65535 none)"
 abbrev pub none : ℕ
 none = 65535
+
+unfoldable pub kept_of : ℕ → Option ℕ
+kept_of kept = cond (eqb kept none) None (Some kept)
 
 -- a trainer that is at no leaf: "Fields a phase doesn't use are 0, kept 65535"
 abbrev pub stand : Settings → RuleTree → ℕ → ℕ → ℕ → Trainer

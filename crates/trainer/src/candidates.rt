@@ -2,26 +2,31 @@
 ghost use Rattle.std.specs.Prelude.{◌≡◌};
 ghost use Rattle.trainer.specs.Candidates.{candidate_of};
 
-use crate::inner::axes;
+use crate::inner::list::Candidates;
 use crate::settings::Settings;
+use refusal::Refusal;
 use remy::action::Action;
 
-// The length of the list of candidates, with candidate k or past its end.
+// The length of the list of candidates, with candidate k, or with none where k is past the end.
 #[derive(Clone, Copy)]
-pub enum Candidate {
-    At(u32, Action),
-    Past(u32),
-    Refused(u32),
+pub struct Candidate {
+    pub length: u32,
+    pub action: Option<Action>,
 }
 
-pub fn candidate_at(s: Settings, a: Action, k: u32) -> Candidate
+#[tactic(auto, using(std::proofs::lemmas::Bool::Decides::nat_tests), unfolding(crate::specs::Candidates::candidate_of))]
+pub fn candidate_at(s: Settings, a: Action, k: u32) -> Result<Candidate, Refusal>
     ensures { result ≡ candidate_of s a k }
 {
-    if s.hold() {
-        if a.valid() {
-            return axes::candidate_in(s, a, k);
-        }
-        return Candidate::Refused(refusal::NOT_ADMITTED);
+    if !s.hold() {
+        return Err(Refusal::BadSettings);
     }
-    Candidate::Refused(refusal::BAD_SETTINGS)
+    if !a.valid() {
+        return Err(Refusal::NotAdmitted);
+    }
+    let list = Candidates {
+        settings: &s,
+        action: a,
+    };
+    Ok(list.pick(k))
 }

@@ -6,15 +6,20 @@ ghost use Rattle.trainer.specs.State.{accepted_of};
 ghost use Rattle.trainer.specs.Calls.{start_of, question_of, answer_counts_of, answer_score_of};
 ghost use Rattle.trainer.specs.Change.{change_of};
 
+use crate::inner::accepted::Accepted;
 use crate::settings::Settings;
+use refusal::Refusal;
 use remy::action::Action;
 use rule_tree::RuleTree;
 
 pub mod candidates;
 pub mod inner;
+pub mod phase;
 pub mod settings;
 
-// The fields of the saved record, one to one. A phase's unused fields are 0, and kept 65535.
+// The fields of the saved record, one to one: so the phase and what is kept are its numbers, which `Phase::of` and `kept_of` read, and
+// a value that the record excludes is refused by number 10. The leaf is a node's number, as in the tree. A phase's unused fields are 0,
+// and kept 65535.
 #[derive(Clone, Copy)]
 pub struct Trainer {
     pub settings: Settings,
@@ -29,129 +34,73 @@ pub struct Trainer {
     pub kept_score: f64,
 }
 
-// A trainer after a call, or the trainer that came and the refusal's number.
-#[derive(Clone, Copy)]
-pub struct Answered {
-    pub refused: u32,
-    pub trainer: Trainer,
-}
-
 // What the trainer asks for, with its progress.
 #[derive(Clone, Copy)]
 pub enum Question {
     Counts(f64),
     Score(u16, Action, f64),
     Done(f64),
-    Refused(u32),
 }
 
 impl Trainer {
-    pub fn start(s: Settings) -> Answered
+    #[tactic(auto, using(std::proofs::lemmas::Bool::Decides::nat_tests), unfolding(crate::specs::Calls::start_of))]
+    pub fn start(s: Settings) -> Result<Trainer, Refusal>
         ensures { result ≡ start_of s }
     {
-        if s.hold() {
-            let trainer = inner::begin::begin_training(s);
-            return Answered {
-                refused: 0,
-                trainer,
-            };
+        if !s.hold() {
+            return Err(Refusal::BadSettings);
         }
-        let trainer = inner::begin::blank();
-        Answered {
-            refused: refusal::BAD_SETTINGS,
-            trainer,
-        }
+        Ok(inner::begin::begin_training(s))
     }
 
     // Whether a trainer holds what the record's rules accept.
     pub fn accepted(self) -> bool
         ensures { result ≡ accepted_of self }
     {
-        inner::accepted::accepted(self)
+        inner::accepted::holds(&self)
     }
 
-    pub fn question(self) -> Question
+    #[tactic(auto, using(std::proofs::lemmas::Bool::Decides::nat_tests), unfolding(crate::specs::Calls::question_of))]
+    pub fn question(self) -> Result<Question, Refusal>
         ensures { result ≡ question_of self }
     {
-        if inner::accepted::accepted(self) {
-            return inner::ask::asked(self);
-        }
-        Question::Refused(refusal::NOT_GROWN)
+        Ok(Accepted::of(&self)?.asked())
     }
 
-    pub fn answer_counts(self, counts: &[u64]) -> Answered
+    #[tactic(auto, using(std::proofs::lemmas::Bool::Decides::nat_tests), unfolding(crate::specs::Phase::phase_of, crate::specs::Calls::answer_counts_of))]
+    pub fn answer_counts(self, counts: &[u64]) -> Result<Trainer, Refusal>
         ensures { result ≡ answer_counts_of self counts.now }
     {
-        if inner::accepted::accepted(self) {
-            if inner::ask::wants_counts(self.phase) {
-                let t = self.tree;
-                if rule_tree::inner::counts::counts_hold(t, counts) {
-                    return inner::counting::counted(self, counts);
-                }
-                return Answered {
-                    refused: refusal::BAD_COUNTS,
-                    trainer: self,
-                };
-            }
-            return Answered {
-                refused: refusal::NOT_ASKED,
-                trainer: self,
-            };
+        let t = Accepted::of(&self)?;
+        if !t.phase.wants_counts() {
+            return Err(Refusal::NotAsked);
         }
-        Answered {
-            refused: refusal::NOT_GROWN,
-            trainer: self,
-        }
+        t.counting(counts)?.counted()
     }
 
-    pub fn answer_score(self, score: f64) -> Answered
+    #[tactic(auto, using(std::proofs::lemmas::Bool::Decides::nat_tests), unfolding(crate::specs::Phase::phase_of, crate::specs::Calls::answer_score_of))]
+    pub fn answer_score(self, score: f64) -> Result<Trainer, Refusal>
         ensures { result ≡ answer_score_of self score }
     {
-        if inner::accepted::accepted(self) {
-            if inner::ask::wants_score(self.phase) {
-                let trainer = inner::scoring::scored(self, score);
-                return Answered {
-                    refused: 0,
-                    trainer,
-                };
-            }
-            return Answered {
-                refused: refusal::NOT_ASKED,
-                trainer: self,
-            };
+        let t = Accepted::of(&self)?;
+        if !t.phase.wants_score() {
+            return Err(Refusal::NotAsked);
         }
-        Answered {
-            refused: refusal::NOT_GROWN,
-            trainer: self,
-        }
+        Ok(t.scored(score))
     }
 
     // New settings with the same upper ends: the tree, the stage and the round stay.
-    pub fn change_settings(self, s: Settings) -> Answered
+    #[tactic(auto, using(std::proofs::lemmas::Bool::Decides::nat_tests), unfolding(crate::specs::Change::change_of))]
+    pub fn change_settings(self, s: Settings) -> Result<Trainer, Refusal>
         ensures { result ≡ change_of self s }
     {
-        if inner::accepted::accepted(self) {
-            if s.hold() {
-                if inner::changing::settings_fit(self, s) {
-                    let trainer = inner::changing::changed(self, s);
-                    return Answered {
-                        refused: 0,
-                        trainer,
-                    };
-                }
-                return Answered {
-                    refused: refusal::UNFIT_SETTINGS,
-                    trainer: self,
-                };
-            }
-            return Answered {
-                refused: refusal::BAD_SETTINGS,
-                trainer: self,
-            };
+        let t = Accepted::of(&self)?;
+        if !s.hold() {
+            return Err(Refusal::BadSettings);
         }
-        Answered {
-            refused: refusal::NOT_GROWN,
-            trainer: self,
+        if !t.takes(&s) {
+            return Err(Refusal::UnfitSettings);
         }
+        Ok(t.changed(s))
     }
 }

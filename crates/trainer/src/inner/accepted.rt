@@ -1,14 +1,22 @@
 // The test of a trainer: what the record's rules accept.
-ghost use Rattle.std.specs.Prelude.{◌≡◌, true, ◌&&◌, ◌<◌, ◌≤◌};
+ghost use Rattle.std.specs.Prelude.{◌≡◌, true, false, ◌&&◌, ◌≤◌, Some, MatchResult};
+ghost use Rattle.refusal.specs.declared.Refusal.TheVariants.{NotGrown};
+ghost use Rattle.rule_tree.specs.Nodes.{most_splits};
 ghost use Rattle.rule_tree.specs.Grown.{grown_of};
-ghost use Rattle.rule_tree.specs.Calls.{leaf_in};
+ghost use Rattle.trainer.specs.Phase.{phase_of};
 ghost use Rattle.trainer.specs.Settings.{settings_hold};
-ghost use Rattle.trainer.specs.State.{zero_bits_of, untried_in, kept_in, untried, leaf_holds, try_holds_of, tuning, box_holds, phase_holds, accepted_of};
-ghost use Rattle.trainer.specs.Fields.{idle_in, splitting_in, tuning_in, ending_in};
+ghost use Rattle.trainer.specs.Calls.{wants_score};
+ghost use Rattle.trainer.specs.State.{zero_bits_of, untried, idle, leaf_holds, kept_holds, try_holds_of, splitting, tuning, ending, phase_holds, accepted_of};
 
 use crate::Trainer;
-use crate::inner::{axes, leaf};
+use crate::inner::kept::kept_of;
+use crate::inner::leaf;
+use crate::inner::leaf::AtLeaf;
+use crate::phase::Phase;
+use refusal::Refusal;
+use rule_tree::inner::links;
 
+// By bits: -0 equals 0 by `==`, and the record takes +0 alone.
 fn zero_bits(x: f64) -> bool
     ensures { result ≡ zero_bits_of x }
 {
@@ -16,183 +24,122 @@ fn zero_bits(x: f64) -> bool
 }
 
 // No candidate was tried: best, k, kept and its score are those of no phase but 5.
-fn none_tried(best: f64, k: u16, kept: u16, score: f64) -> bool
-    ensures { result ≡ untried_in best k kept score }
+#[tactic(auto, using(std::proofs::lemmas::Bool::Decides::nat_tests), unfolding(crate::specs::State::untried_in, crate::specs::State::kept_of))]
+fn untried(t: &Trainer) -> bool
+    ensures { result ≡ untried t.now }
 {
-    if zero_bits(best) {
-        if k == 0 {
-            if kept == 65535 {
-                return zero_bits(score);
-            }
-        }
-    }
-    false
+    zero_bits(t.best) && t.k == 0 && kept_of(t.kept).is_none() && zero_bits(t.kept_score)
 }
 
-fn at_no_leaf(leaf: u16, best: f64, k: u16, kept: u16, score: f64) -> bool
-    ensures { result ≡ idle_in leaf best k kept score }
+fn idle(t: &Trainer) -> bool
+    ensures { result ≡ idle t.now }
 {
-    if leaf == 0 {
-        return none_tried(best, k, kept, score);
-    }
-    false
+    t.leaf == 0 && untried(t)
 }
 
 // What is kept is below k, with a score above best.
-fn kept_holds(best: f64, k: u16, kept: u16, score: f64) -> bool
-    ensures { result ≡ kept_in best k kept score }
+#[tactic(auto, using(std::proofs::lemmas::Bool::Decides::nat_tests), unfolding(crate::specs::State::kept_in, crate::specs::State::kept_of))]
+fn kept_holds(t: &Trainer) -> bool
+    ensures { result ≡ kept_holds t.now }
 {
-    if kept == 65535 {
-        return zero_bits(score);
+    match kept_of(t.kept) {
+        None => zero_bits(t.kept_score),
+        Some(kept) => kept < t.k && t.best < t.kept_score,
     }
-    if kept < k {
-        return best < score;
-    }
-    false
 }
 
 // Phases 1 and 2.
-fn splits_now(stage: u32, rule_splits: u32, round: u32, waits: bool) -> bool
-    ensures { result ≡ splitting_in stage rule_splits round waits }
+#[tactic(auto, using(std::proofs::lemmas::Bool::Decides::nat_tests), unfolding(crate::specs::State::splitting))]
+fn splits_now(t: &Trainer) -> bool
+    ensures { result ≡ splitting t.now }
 {
-    if 1 <= stage {
-        if stage <= rule_splits {
-            if round == 0 {
-                return waits;
-            }
-        }
-    }
-    false
+    1 <= t.stage && t.stage <= t.settings.rule_splits && t.round == 0 && idle(t)
 }
 
 // Phases 3 to 5.
-fn tunes_now(stage: u32, rule_splits: u32, round: u32, rounds: u32) -> bool
-    ensures { result ≡ tuning_in stage rule_splits round rounds }
+#[tactic(auto, using(std::proofs::lemmas::Bool::Decides::nat_tests), unfolding(crate::specs::State::tuning))]
+fn tunes_now(t: &Trainer) -> bool
+    ensures { result ≡ tuning t.now }
 {
-    if stage <= rule_splits {
-        return round < rounds;
-    }
-    false
-}
-
-// Phase 3.
-fn chooses_now(stage: u32, rule_splits: u32, round: u32, rounds: u32, waits: bool) -> bool
-    ensures { result ≡ (tuning_in stage rule_splits round rounds && waits) }
-{
-    if tunes_now(stage, rule_splits, round, rounds) {
-        return waits;
-    }
-    false
+    t.stage <= t.settings.rule_splits && t.round < t.settings.optimization_rounds_per_split
 }
 
 // Phases 6 and 7.
-fn ends_now(stage: u32, rule_splits: u32, round: u32, waits: bool) -> bool
-    requires { rule_splits < 4294967295 }
-    ensures { result ≡ ending_in stage rule_splits round waits }
+#[tactic(auto, using(std::proofs::lemmas::Bool::Decides::nat_tests), unfolding(crate::specs::State::ending))]
+fn ends_now(t: &Trainer) -> bool
+    ensures { result ≡ ending t.now }
 {
-    if stage == rule_splits + 1 {
-        if round == 0 {
-            return waits;
-        }
-    }
-    false
-}
-
-// In phases 4 and 5: a round of tuning, at an unmarked leaf.
-fn tunes_leaf(t: Trainer) -> bool
-    requires { t.tree.splits ≤ 64 }
-    ensures { result ≡ (tuning t && leaf_holds t) }
-{
-    let s = t.settings;
-    if tunes_now(
-        t.stage,
-        s.rule_splits,
-        t.round,
-        s.optimization_rounds_per_split,
-    ) {
-        let tree = t.tree;
-        return leaf::unmarked_leaf(tree, t.leaf);
-    }
-    false
+    u64::from(t.stage) == u64::from(t.settings.rule_splits) + 1 && t.round == 0 && idle(t)
 }
 
 // In phase 5: candidate k is in the list, and what is kept is below it.
-fn try_holds(t: Trainer) -> bool
-    requires { (settings_hold t.settings ≡ true) × ((grown_of t.tree ≡ true) × (leaf_in t.tree t.leaf ≡ true)) }
-    ensures { result ≡ try_holds_of t }
+#[tactic(auto, using(std::proofs::lemmas::Bool::Decides::nat_tests), unfolding(crate::specs::State::try_holds_of))]
+fn try_holds(at: AtLeaf) -> bool
+    ensures { result ≡ try_holds_of at.entry.trainer.now }
 {
-    let s = t.settings;
-    let tree = t.tree;
-    let a = leaf::action_at(tree, t.leaf);
-    if (t.k as u32) < axes::count_in(s, a) {
-        return kept_holds(t.best, t.k, t.kept, t.kept_score);
-    }
-    false
+    u32::from(at.trainer.k) < at.candidates().len() && kept_holds(at.trainer)
 }
 
-// Phase 4.
-fn asks_leaf(t: Trainer) -> bool
-    requires { t.tree.splits ≤ 64 }
-    ensures { result ≡ (tuning t && (leaf_holds t && untried t)) }
+// In phases 4 and 5: a round of tuning, at an unmarked leaf.
+#[tactic(auto, using(std::proofs::lemmas::Bool::Decides::nat_tests, crate::proofs::AcceptWays::leaf_is))]
+fn tunes_leaf(t: &Trainer) -> bool
+    requires { t.now.tree.splits ≤ most_splits }
+    ensures { result ≡ (tuning t.now && leaf_holds t.now) }
 {
-    if tunes_leaf(t) {
-        return none_tried(t.best, t.k, t.kept, t.kept_score);
-    }
-    false
+    tunes_now(t) && leaf::unmarked_leaf(&t.tree, t.leaf)
 }
 
-// Phase 5.
-fn tries_leaf(t: Trainer) -> bool
-    requires { (settings_hold t.settings ≡ true) × (grown_of t.tree ≡ true) }
-    ensures { result ≡ (tuning t && (leaf_holds t && try_holds_of t)) }
+#[tactic(auto, using(std::proofs::lemmas::Bool::Decides::nat_tests, rule_tree::proofs::Links::grown_splits), unfolding(crate::specs::Phase::phase_of, crate::specs::State::phase_holds, crate::specs::State::leaf_holds))]
+fn phase_holds(t: &Trainer) -> bool
+    requires settings { settings_hold t.now.settings ≡ true }
+    requires grown { grown_of t.now.tree ≡ true }
+    ensures { result ≡ phase_holds t.now }
 {
-    if tunes_leaf(t) {
-        return try_holds(t);
-    }
-    false
-}
-
-fn phase_holds(t: Trainer) -> bool
-    requires { (settings_hold t.settings ≡ true) × (grown_of t.tree ≡ true) }
-    ensures { result ≡ phase_holds t }
-{
-    let s = t.settings;
-    let phase = t.phase;
-    let waits = at_no_leaf(t.leaf, t.best, t.k, t.kept, t.kept_score);
-    match phase {
-        1 | 2 => splits_now(t.stage, s.rule_splits, t.round, waits),
-        3 => chooses_now(
-            t.stage,
-            s.rule_splits,
-            t.round,
-            s.optimization_rounds_per_split,
-            waits,
-        ),
-        4 => asks_leaf(t),
-        5 => tries_leaf(t),
-        6 | 7 => ends_now(t.stage, s.rule_splits, t.round, waits),
-        _ => false,
+    match Phase::of(t.phase) {
+        Some(Phase::Split | Phase::Drill) => splits_now(t),
+        Some(Phase::Choose) => tunes_now(t) && idle(t),
+        Some(Phase::Own) => tunes_leaf(t) && untried(t),
+        Some(Phase::Try) => tunes_leaf(t) && try_holds(AtLeaf { trainer: t }),
+        Some(Phase::Last | Phase::Done) => ends_now(t),
+        None => false,
     }
 }
 
-// The tree has the upper ends of the settings.
-fn box_holds(t: Trainer) -> bool
-    ensures { result ≡ box_holds t }
+#[tactic(auto, using(std::proofs::lemmas::Bool::Decides::nat_tests, remy::proofs::Equality::points_equal), unfolding(crate::specs::State::accepted_of, crate::specs::State::box_holds))]
+pub fn holds(t: &Trainer) -> bool
+    ensures { result ≡ accepted_of t.now }
 {
-    t.tree.ends == t.settings.ends
+    t.settings.hold() && links::grown(&t.tree) && t.tree.ends == t.settings.ends && phase_holds(t)
 }
 
-pub fn accepted(t: Trainer) -> bool
-    ensures { result ≡ accepted_of t }
-{
-    let s = t.settings;
-    if s.hold() {
-        let tree = t.tree;
-        if rule_tree::inner::links::grown(tree) {
-            if box_holds(t) {
-                return phase_holds(t);
-            }
+// A trainer that passed the test, and its phase.
+#[derive(Clone, Copy)]
+pub struct Accepted<'a> {
+    pub trainer: &'a Trainer,
+    pub phase: Phase,
+    ghost accepted: { accepted_of trainer.now ≡ true },
+    ghost named: { phase_of trainer.now.phase ≡ Some phase },
+}
+
+impl<'a> Accepted<'a> {
+    #[tactic(auto, using(std::proofs::lemmas::Bool::Decides::nat_tests), unfolding(crate::specs::Phase::phase_of, crate::specs::State::phase_holds, crate::specs::State::accepted_of))]
+    pub fn of(trainer: &'a Trainer) -> Result<Accepted<'a>, Refusal>
+        ensures { MatchResult result (λ a. a.trainer.now ≡ trainer.now) (λ r. (r ≡ NotGrown) × (accepted_of trainer.now ≡ false)) }
+    {
+        match Phase::of(trainer.phase) {
+            Some(phase) if holds(trainer) => Ok(Accepted { trainer, phase }),
+            _ => Err(Refusal::NotGrown),
         }
     }
-    false
+
+    // The leaf whose score is asked for.
+    #[tactic(auto, using(crate::proofs::AcceptedFacts::accepted_settings, crate::proofs::AcceptedFacts::accepted_grown, crate::proofs::AcceptedFacts::wanted_leaf))]
+    pub fn at_leaf(self) -> AtLeaf<'a>
+        requires { wants_score self.trainer.now.phase ≡ true }
+        ensures { result.trainer.now ≡ self.entry.trainer.now }
+    {
+        AtLeaf {
+            trainer: self.trainer,
+        }
+    }
 }

@@ -1,64 +1,35 @@
 // What a trainer asks for.
-ghost use Rattle.std.specs.Prelude.{◌≡◌, true, ◌<◌};
-ghost use Rattle.trainer.specs.State.{accepted_of};
-ghost use Rattle.trainer.specs.Calls.{asked_of, wants_counts, wants_score};
-ghost use Rattle.trainer.specs.Fields.{progress_in};
+ghost use Rattle.std.specs.Prelude.{◌≡◌};
+ghost use Rattle.trainer.specs.Calls.{progress_of, asked_of};
 
-use crate::inner::leaf;
-use crate::{Question, Trainer};
+use crate::Question;
+use crate::inner::accepted::Accepted;
+use crate::phase::Phase;
 
-pub fn wants_counts(phase: u8) -> bool
-    ensures { result ≡ wants_counts phase }
-{
-    if phase == 1 {
-        return true;
+impl<'a> Accepted<'a> {
+    // The stage over the number of stages.
+    #[tactic(auto, using(crate::proofs::AcceptedFacts::accepted_splits))]
+    fn progress(self) -> f64
+        ensures { result ≡ progress_of self.entry.trainer.now }
+    {
+        let t = self.trainer;
+        t.stage as f64 / (t.settings.rule_splits + 1) as f64
     }
-    if phase == 2 {
-        return true;
-    }
-    if phase == 3 {
-        return true;
-    }
-    phase == 6
-}
 
-pub fn wants_score(phase: u8) -> bool
-    ensures { result ≡ wants_score phase }
-{
-    if phase == 4 {
-        return true;
+    #[tactic(auto, using(std::proofs::lemmas::Bool::Decides::nat_tests, crate::proofs::AcceptedFacts::try_listed), unfolding(crate::specs::Phase::phase_of, crate::specs::Calls::asked_of))]
+    pub fn asked(self) -> Question
+        ensures { result ≡ asked_of self.entry.trainer.now }
+    {
+        let t = self.trainer;
+        let p = self.progress();
+        match self.phase {
+            Phase::Own => Question::Score(t.leaf, self.at_leaf().action(), p),
+            Phase::Try => {
+                let c = self.at_leaf().candidates().at(t.k);
+                Question::Score(t.leaf, c, p)
+            }
+            Phase::Done => Question::Done(p),
+            _ => Question::Counts(p),
+        }
     }
-    phase == 5
-}
-
-// The stage over the number of stages.
-fn progress(stage: u32, rule_splits: u32) -> f64
-    requires { rule_splits < 4294967295 }
-    ensures { result ≡ progress_in stage rule_splits }
-{
-    (stage as f64) / ((rule_splits + 1) as f64)
-}
-
-pub fn asked(t: Trainer) -> Question
-    requires { accepted_of t ≡ true }
-    ensures { result ≡ asked_of t }
-{
-    let s = t.settings;
-    let phase = t.phase;
-    let p = progress(t.stage, s.rule_splits);
-    if phase == 4 {
-        let tree = t.tree;
-        let a = leaf::action_at(tree, t.leaf);
-        return Question::Score(t.leaf, a, p);
-    }
-    if phase == 5 {
-        let tree = t.tree;
-        let a = leaf::action_at(tree, t.leaf);
-        let c = leaf::candidate(s, a, t.k);
-        return Question::Score(t.leaf, c, p);
-    }
-    if phase == 7 {
-        return Question::Done(p);
-    }
-    Question::Counts(p)
 }

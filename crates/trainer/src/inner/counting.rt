@@ -1,167 +1,159 @@
 // The steps on an answer with counts, one function a phase.
-ghost use Rattle.std.specs.Prelude.{◌≡◌, true, false, ◌&&◌, not, ◌<◌, ◌≤◌, leb, eqb};
-ghost use Rattle.rule_tree.specs.Grown.{grown_of};
+ghost use Rattle.std.specs.Prelude.{◌≡◌, true, false, ◌&&◌, not, ◌<◌, ltb, eqb, MatchResult};
+ghost use Rattle.refusal.specs.declared.Refusal.TheVariants.{BadCounts, FullTree};
+ghost use Rattle.rule_tree.specs.Nodes.{slots, most_splits};
 ghost use Rattle.rule_tree.specs.Counts.{counts_hold};
-ghost use Rattle.trainer.specs.State.{accepted_of};
 ghost use Rattle.trainer.specs.Phases.{most_used_in, chosen_leaf, split_most_used, phase1, phase2, next_round, tune_next, phase6};
-ghost use Rattle.trainer.specs.Calls.{wants_counts, counts_step_of};
-ghost use Rattle.trainer.specs.Fields.{Counting};
+ghost use Rattle.trainer.specs.Calls.{counts_step_of};
 
-use crate::inner::begin;
-use crate::{Answered, Trainer};
+use crate::Trainer;
+use crate::inner::accepted::Accepted;
+use crate::inner::begin::Place;
+use crate::phase::Phase;
+use refusal::Refusal;
 use rule_tree::inner::{change, counts};
-use rule_tree::{Chosen, RuleTree};
+use rule_tree::{MOST_SPLITS, RuleTree};
 
-fn most_used_leaf(t: RuleTree, xs: &[u64]) -> u16
-    requires { (grown_of t ≡ true) × (counts_hold t xs.now ≡ true) }
-    ensures { (result ≡ chosen_leaf (most_used_in t xs.now false)) × (result < 513) }
-{
-    let Chosen::Leaf(i) = counts::most_used(t, xs, false) else {
-        return 0;
-    };
-    i
+// An accepted trainer, with counts for its tree.
+#[derive(Clone, Copy)]
+pub struct Counting<'a> {
+    pub asked: Accepted<'a>,
+    pub counts: &'a [u64],
+    ghost counts_hold: { counts_hold asked.trainer.now.tree counts.now ≡ true },
 }
 
-fn split_most_used(t: RuleTree, xs: &[u64]) -> RuleTree
-    requires { (grown_of t ≡ true) × ((counts_hold t xs.now ≡ true) × (t.splits < 64)) }
-    ensures { result ≡ split_most_used t xs.now }
-{
-    let i = most_used_leaf(t, xs);
-    change::split_at(t, i)
-}
-
-fn drills(drill: bool, used: u32) -> bool
-    ensures { result ≡ (drill && leb used 1) }
-{
-    if drill {
-        return used <= 1;
-    }
-    false
-}
-
-// Phase 1: split the most used, and go on splitting in a drill where at most one leaf was used.
-fn split_once(t: Trainer, xs: &[u64]) -> Answered
-    requires { Counting t xs.now }
-    ensures { result ≡ phase1 t xs.now }
-{
-    let s = t.settings;
-    let start = t.tree;
-    if start.splits < 64 {
-        let tree = split_most_used(start, xs);
-        if drills(s.drill_down, counts::used(xs)) {
-            let trainer = begin::stand_at(s, tree, 2, t.stage, 0);
-            return Answered {
-                refused: 0,
-                trainer,
-            };
+impl<'a> Accepted<'a> {
+    #[tactic(auto, using(crate::proofs::AcceptedFacts::accepted_few))]
+    pub fn counting(self, counts: &'a [u64]) -> Result<Counting<'a>, Refusal>
+        ensures { MatchResult result
+            (λ c. (c.asked.trainer.now ≡ self.entry.trainer.now) × (c.counts.now ≡ counts.now))
+            (λ r. (r ≡ BadCounts) × (counts_hold self.entry.trainer.now.tree counts.now ≡ false)) }
+    {
+        if !counts::counts_hold(&self.trainer.tree, counts) {
+            return Err(Refusal::BadCounts);
         }
-        let trainer = begin::begin_round(s, tree, t.stage, 0);
-        return Answered {
-            refused: 0,
-            trainer,
-        };
+        Ok(Counting {
+            asked: self,
+            counts,
+        })
     }
-    Answered {
-        refused: refusal::FULL_TREE,
-        trainer: t,
-    }
-}
-
-// Phase 2: split until more than one leaf is used.
-fn split_again(t: Trainer, xs: &[u64]) -> Answered
-    requires { Counting t xs.now }
-    ensures { result ≡ phase2 t xs.now }
-{
-    let s = t.settings;
-    let old = t.tree;
-    if 1 < counts::used(xs) {
-        let trainer = begin::begin_round(s, old, t.stage, 0);
-        return Answered {
-            refused: 0,
-            trainer,
-        };
-    }
-    if old.splits < 64 {
-        let more = split_most_used(old, xs);
-        let trainer = begin::stand_at(s, more, 2, t.stage, 0);
-        return Answered {
-            refused: 0,
-            trainer,
-        };
-    }
-    Answered {
-        refused: refusal::FULL_TREE,
-        trainer: t,
-    }
-}
-
-fn next_round(t: Trainer) -> Trainer
-    requires { (t.stage ≤ 65) × (t.round ≤ 1000) }
-    ensures { result ≡ next_round t }
-{
-    let s = t.settings;
-    let old = t.tree;
-    let tree = change::without_marks(old);
-    begin::begin_round(s, tree, t.stage, t.round + 1)
 }
 
 // A leaf's share is 0 where its count is and the total is not.
 fn no_share(count: u64, total: u64) -> bool
     ensures { result ≡ (eqb count 0 && not (eqb total 0)) }
 {
-    if count == 0 {
-        return total != 0;
-    }
-    false
+    count == 0 && total != 0
 }
 
-// Phase 3: the most used unmarked leaf, or the next round.
-fn tune_next(t: Trainer, xs: &[u64]) -> Trainer
-    requires { Counting t xs.now }
-    ensures { result ≡ tune_next t xs.now (most_used_in t.tree xs.now true) }
-{
-    let s = t.settings;
-    let tree = t.tree;
-    let Chosen::Leaf(i) = counts::most_used(tree, xs, true) else {
-        return next_round(t);
-    };
-    let at = i as usize;
-    if no_share(xs[at], counts::capped_total(xs)) {
-        return next_round(t);
+impl<'a> Counting<'a> {
+    #[tactic(auto, using(std::proofs::lemmas::Bool::Decides::nat_tests), unfolding(crate::specs::Phase::phase_of, crate::specs::Calls::counts_step_of))]
+    pub fn counted(self) -> Result<Trainer, Refusal>
+        ensures { result ≡ counts_step_of self.entry.asked.trainer.now self.entry.counts.now }
+    {
+        match self.asked.phase {
+            Phase::Split => self.split_once(),
+            Phase::Drill => self.split_again(),
+            Phase::Choose => Ok(self.tune_next()),
+            _ => Ok(self.finish()),
+        }
     }
-    begin::ask_leaf(s, tree, t.stage, t.round, i)
-}
 
-// Phase 6: done.
-fn finish(t: Trainer) -> Answered
-    ensures { result ≡ phase6 t }
-{
-    let s = t.settings;
-    let tree = t.tree;
-    let trainer = begin::stand_at(s, tree, 7, t.stage, 0);
-    Answered {
-        refused: 0,
-        trainer,
+    // A grown tree has a leaf.
+    #[tactic(auto, using(crate::proofs::AcceptedFacts::accepted_counts))]
+    fn most_used_leaf(self) -> u16
+        ensures leaf { result ≡ chosen_leaf (most_used_in self.entry.asked.trainer.now.tree self.entry.counts.now false) }
+        ensures slot { result < slots }
+    {
+        counts::most_used(&self.asked.trainer.tree, self.counts, false).unwrap()
     }
-}
 
-pub fn counted(t: Trainer, counts: &[u64]) -> Answered
-    requires { (accepted_of t ≡ true) × ((wants_counts t.phase ≡ true) × (counts_hold t.tree counts.now ≡ true)) }
-    ensures { result ≡ counts_step_of t counts.now }
-{
-    let phase = t.phase;
-    if phase == 1 {
-        return split_once(t, counts);
+    // The tree with its most used leaf split, if it has room.
+    fn split_most_used(self) -> Result<RuleTree, Refusal>
+        ensures { MatchResult result
+            (λ tree. (tree ≡ split_most_used self.entry.asked.trainer.now.tree self.entry.counts.now)
+            × (ltb self.entry.asked.trainer.now.tree.splits most_splits ≡ true))
+            (λ r. (r ≡ FullTree) × (ltb self.entry.asked.trainer.now.tree.splits most_splits ≡ false)) }
+    {
+        let tree = self.asked.trainer.tree;
+        if tree.splits >= MOST_SPLITS {
+            return Err(Refusal::FullTree);
+        }
+        Ok(change::split_at(tree, self.most_used_leaf()))
     }
-    if phase == 2 {
-        return split_again(t, counts);
-    }
-    if phase == 3 {
-        let trainer = tune_next(t, counts);
-        return Answered {
-            refused: 0,
-            trainer,
+
+    // Phase 1: split the most used, and go on splitting in a drill where at most one leaf was used.
+    #[tactic(auto, using(std::proofs::lemmas::Bool::Decides::nat_tests, crate::proofs::AcceptedFacts::accepted_counts, crate::proofs::AcceptedFacts::accepted_stage), unfolding(crate::specs::Phases::phase1))]
+    fn split_once(self) -> Result<Trainer, Refusal>
+        ensures { result ≡ phase1 self.entry.asked.trainer.now self.entry.counts.now }
+    {
+        let t = self.asked.trainer;
+        let next = Place {
+            tree: self.split_most_used()?,
+            round: 0,
+            ..Place::of(t)
         };
+        Ok(if t.settings.drill_down && counts::used(self.counts) <= 1 {
+            next.stand_at(Phase::Drill)
+        } else {
+            next.begin_round()
+        })
     }
-    finish(t)
+
+    // Phase 2: split until more than one leaf is used.
+    #[tactic(auto, using(std::proofs::lemmas::Bool::Decides::nat_tests, crate::proofs::AcceptedFacts::accepted_counts, crate::proofs::AcceptedFacts::accepted_stage), unfolding(crate::specs::Phases::phase2))]
+    fn split_again(self) -> Result<Trainer, Refusal>
+        ensures { result ≡ phase2 self.entry.asked.trainer.now self.entry.counts.now }
+    {
+        let place = Place {
+            round: 0,
+            ..Place::of(self.asked.trainer)
+        };
+        if 1 < counts::used(self.counts) {
+            return Ok(place.begin_round());
+        }
+        let more = Place {
+            tree: self.split_most_used()?,
+            ..place
+        };
+        Ok(more.stand_at(Phase::Drill))
+    }
+
+    #[tactic(auto, using(crate::proofs::AcceptedFacts::accepted_stage, crate::proofs::AcceptedFacts::accepted_round))]
+    fn next_round(self) -> Trainer
+        ensures { result ≡ next_round self.entry.asked.trainer.now }
+    {
+        let t = self.asked.trainer;
+        let next = Place {
+            tree: change::without_marks(t.tree),
+            round: t.round + 1,
+            ..Place::of(t)
+        };
+        next.begin_round()
+    }
+
+    // Phase 3: the most used unmarked leaf, or the next round.
+    #[tactic(auto, using(std::proofs::lemmas::Bool::Decides::nat_tests, crate::proofs::AcceptedFacts::accepted_counts, crate::proofs::AcceptedFacts::counted_leaf), unfolding(crate::specs::Phases::tune_next))]
+    fn tune_next(self) -> Trainer
+        ensures { result ≡ tune_next self.entry.asked.trainer.now self.entry.counts.now (most_used_in self.entry.asked.trainer.now.tree self.entry.counts.now true) }
+    {
+        let t = self.asked.trainer;
+        match counts::most_used(&t.tree, self.counts, true) {
+            Some(i) if !no_share(self.counts[i as usize], counts::capped_total(self.counts)) => {
+                Place::of(t).ask_leaf(i)
+            }
+            _ => self.next_round(),
+        }
+    }
+
+    // Phase 6: done.
+    fn finish(self) -> Trainer
+        ensures { result ≡ phase6 self.entry.asked.trainer.now }
+    {
+        let place = Place {
+            round: 0,
+            ..Place::of(self.asked.trainer)
+        };
+        place.stand_at(Phase::Done)
+    }
 }

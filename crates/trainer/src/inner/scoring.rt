@@ -1,103 +1,135 @@
 // The steps on an answer with a score.
 ghost use Rattle.std.specs.Prelude.{◌≡◌, true, ◌<◌, length};
 ghost use Rattle.remy.specs.Action.{valid_of};
-ghost use Rattle.trainer.specs.Settings.{settings_hold};
+ghost use Rattle.rule_tree.specs.Nodes.{slots};
 ghost use Rattle.trainer.specs.Candidates.{candidates_of};
-ghost use Rattle.trainer.specs.State.{accepted_of, leaf_action};
-ghost use Rattle.trainer.specs.Phases.{after_last, tried, phase5};
+ghost use Rattle.trainer.specs.State.{leaf_action};
+ghost use Rattle.trainer.specs.Phases.{marked, try_from, after_last, tried, phase5};
 ghost use Rattle.trainer.specs.Calls.{wants_score, score_step};
-ghost use Rattle.trainer.specs.Fields.{action_at, marked_in, try_from_in, keeps_in, Scoring, Kept};
+ghost use Rattle.trainer.specs.Fields.{action_at, keeps_in, Kept};
 
 use crate::Trainer;
-use crate::inner::{axes, begin, leaf};
-use crate::settings::Settings;
+use crate::inner::accepted::Accepted;
+use crate::inner::begin::Place;
+use crate::inner::kept::{NONE, kept_of};
+use crate::inner::leaf;
+use crate::inner::leaf::AtLeaf;
+use crate::inner::list::Candidates;
+use crate::phase::Phase;
 use rule_tree::RuleTree;
 use rule_tree::inner::change;
 
-// The leaf is tuned for this round.
-fn mark_leaf(s: Settings, t: RuleTree, stage: u32, round: u32, leaf: u16) -> Trainer
-    requires { leaf < 513 }
-    ensures { result ≡ marked_in s t stage round leaf }
-{
-    let tree = change::with_mark(t, leaf);
-    begin::stand_at(s, tree, 3, stage, round)
-}
-
-// The candidates of the leaf's action from the first on, or a mark where there are none.
-fn try_from(s: Settings, t: RuleTree, stage: u32, round: u32, leaf: u16, best: f64) -> Trainer
-    requires { (settings_hold s ≡ true) × ((leaf < 513) × (valid_of (action_at t leaf) ≡ true)) }
-    ensures { result ≡ try_from_in s t stage round leaf best }
-{
-    let a = leaf::action_at(t, leaf);
-    if axes::count_in(s, a) == 0 {
-        return mark_leaf(s, t, stage, round, leaf);
+impl<'a> Accepted<'a> {
+    #[tactic(auto, using(std::proofs::lemmas::Bool::Decides::nat_tests, crate::proofs::AcceptedFacts::wanted_valid, crate::proofs::AcceptedFacts::try_listed, crate::proofs::AcceptedFacts::try_kept), unfolding(crate::specs::Phase::phase_of, crate::specs::Calls::score_step))]
+    pub fn scored(self, x: f64) -> Trainer
+        requires { wants_score self.trainer.now.phase ≡ true }
+        ensures { result ≡ score_step self.entry.trainer.now x }
+    {
+        let at = self.at_leaf();
+        match self.phase {
+            Phase::Own => at.try_from(self.trainer.tree, x),
+            _ => at.try_score(x),
+        }
     }
-    begin::try_candidate(s, t, stage, round, leaf, best, 0, 65535, 0.0)
 }
 
-// After the last candidate: the one kept becomes the action, or the leaf is tuned.
-fn adopt(t: Trainer, kept: u16, score: f64) -> Trainer
-    requires { (Scoring t) × (Kept t kept) }
-    ensures { result ≡ after_last t kept score }
-{
-    let s = t.settings;
-    let old = t.tree;
-    if kept == 65535 {
-        return mark_leaf(s, old, t.stage, t.round, t.leaf);
-    }
-    let a = leaf::action_at(old, t.leaf);
-    let c = leaf::candidate(s, a, kept);
-    let tree = change::with_action(old, t.leaf, c);
-    try_from(s, tree, t.stage, t.round, t.leaf, score)
-}
-
-// The next candidate, with what is kept so far.
-fn next_candidate(t: Trainer, kept: u16, score: f64) -> Trainer
-    requires { (Scoring t) × ((t.k < length (candidates_of t.settings (leaf_action t))) × (Kept t kept)) }
-    ensures { result ≡ tried t kept score }
-{
-    let s = t.settings;
-    let tree = t.tree;
-    let a = leaf::action_at(tree, t.leaf);
-    let k = t.k + 1;
-    if (k as u32) < axes::count_in(s, a) {
-        return begin::try_candidate(s, tree, t.stage, t.round, t.leaf, t.best, k, kept, score);
-    }
-    adopt(t, kept, score)
-}
-
+// From here on kept and score are two fields of the saved record, handed on as they are: a struct of the two would be no plainer.
+// host_answers takes the same steps on a small state: there a trainer a step, with its tree of 12 KB, is too slow.
 // A score is kept if it is above best and no lower than the one kept.
+#[tactic(auto, using(std::proofs::lemmas::Bool::Decides::nat_tests), unfolding(crate::specs::Fields::keeps_in, crate::specs::State::kept_of))]
 pub fn keeps(best: f64, kept: u16, score: f64, x: f64) -> bool
     ensures { result ≡ keeps_in best kept score x }
 {
-    if best < x {
-        if kept == 65535 {
-            return true;
+    best < x && (kept_of(kept).is_none() || score <= x)
+}
+
+impl<'a> AtLeaf<'a> {
+    // The leaf is tuned for this round.
+    #[tactic(auto, using(rule_tree::proofs::Ways::leaf_fits))]
+    fn marked(self, tree: RuleTree) -> Trainer
+        ensures { result ≡ marked self.entry.trainer.now tree }
+    {
+        let place = Place {
+            tree: change::with_mark(tree, self.trainer.leaf),
+            ..Place::of(self.trainer)
+        };
+        place.stand_at(Phase::Choose)
+    }
+
+    // The candidates of the leaf's action in a tree from the first on, or a mark where there are none.
+    #[tactic(auto, using(std::proofs::lemmas::Bool::Decides::nat_tests, rule_tree::proofs::Ways::leaf_fits), unfolding(crate::specs::Phases::try_from))]
+    fn try_from(self, tree: RuleTree, best: f64) -> Trainer
+        requires { valid_of (action_at tree self.trainer.now.leaf) ≡ true }
+        ensures { result ≡ try_from self.entry.trainer.now tree best }
+    {
+        let t = self.trainer;
+        let list = Candidates {
+            settings: &t.settings,
+            action: leaf::action_at(&tree, t.leaf),
+        };
+        if list.len() == 0 {
+            return self.marked(tree);
         }
-        return score <= x;
+        Trainer {
+            tree,
+            phase: Phase::Try.number(),
+            best,
+            k: 0,
+            kept: NONE,
+            kept_score: 0.0,
+            ..*t
+        }
     }
-    false
-}
 
-// Phase 5: the score of candidate k.
-fn try_score(t: Trainer, x: f64) -> Trainer
-    requires { (Scoring t) × ((t.k < length (candidates_of t.settings (leaf_action t))) × (Kept t t.kept)) }
-    ensures { result ≡ phase5 t x }
-{
-    if keeps(t.best, t.kept, t.kept_score, x) {
-        return next_candidate(t, t.k, x);
+    // After the last candidate: the one kept becomes the action, or the leaf is tuned.
+    #[tactic(auto, using(std::proofs::lemmas::Bool::Decides::nat_tests, rule_tree::proofs::Ways::leaf_fits), unfolding(crate::specs::State::kept_of, crate::specs::Phases::after_last))]
+    fn adopt(self, kept: u16, score: f64) -> Trainer
+        requires { Kept self.trainer.now kept }
+        ensures { result ≡ after_last self.entry.trainer.now kept score }
+    {
+        let t = self.trainer;
+        match kept_of(kept) {
+            None => self.marked(t.tree),
+            Some(k) => {
+                let c = self.candidates().at(k);
+                self.try_from(change::with_action(t.tree, t.leaf, c), score)
+            }
+        }
     }
-    next_candidate(t, t.kept, t.kept_score)
-}
 
-pub fn scored(t: Trainer, x: f64) -> Trainer
-    requires { (accepted_of t ≡ true) × (wants_score t.phase ≡ true) }
-    ensures { result ≡ score_step t x }
-{
-    if t.phase == 4 {
-        let s = t.settings;
-        let tree = t.tree;
-        return try_from(s, tree, t.stage, t.round, t.leaf, x);
+    // The next candidate, with what is kept so far.
+    #[tactic(auto, using(std::proofs::lemmas::Bool::Decides::nat_tests, crate::proofs::CandidateLaws::candidates_few), unfolding(crate::specs::Phases::tried))]
+    fn next_candidate(self, kept: u16, score: f64) -> Trainer
+        requires listed { self.trainer.now.k < length (candidates_of self.trainer.now.settings (leaf_action self.trainer.now)) }
+        requires kept { Kept self.trainer.now kept }
+        ensures { result ≡ tried self.entry.trainer.now kept score }
+    {
+        let t = self.trainer;
+        let k = t.k + 1;
+        if u32::from(k) < self.candidates().len() {
+            return Trainer {
+                phase: Phase::Try.number(),
+                k,
+                kept,
+                kept_score: score,
+                ..*t
+            };
+        }
+        self.adopt(kept, score)
     }
-    try_score(t, x)
+
+    // Phase 5: the score of candidate k.
+    #[tactic(auto, using(std::proofs::lemmas::Bool::Decides::nat_tests), unfolding(crate::specs::Phases::phase5, crate::specs::Fields::keeps_in))]
+    fn try_score(self, x: f64) -> Trainer
+        requires listed { self.trainer.now.k < length (candidates_of self.trainer.now.settings (leaf_action self.trainer.now)) }
+        requires kept { Kept self.trainer.now self.trainer.now.kept }
+        ensures { result ≡ phase5 self.entry.trainer.now x }
+    {
+        let t = self.trainer;
+        if keeps(t.best, t.kept, t.kept_score, x) {
+            self.next_candidate(t.k, x)
+        } else {
+            self.next_candidate(t.kept, t.kept_score)
+        }
+    }
 }
