@@ -7,18 +7,19 @@ use native.Mathlib.Omega.{arith}
 use borrow.Author.Tests.{eqb-true, leb-true}
 use lib.Dec.{leb}
 use lib.ListN.{length}
-use Rattle.refusal.specs.Guards.{test, guarded}
+use Rattle.std.specs.Prelude.{Ok}
+use Rattle.std.proofs.lemmas.Bool.{false_from_ne_true}
+use Rattle.refusal.specs.declared.Refusal.TheVariants.{BadField, BadLength, UnknownVersion}
+use Rattle.refusal.specs.Guards.{check, checked}
 use Rattle.rule_tree.proofs.Plain.{and_l, and_r}
 use Rattle.trainer.specs.State.{accepted_of}
-use Rattle.trainer.specs.Phases.{refuse, taken}
-use Rattle.trainer.specs.Calls.{blank_trainer}
 use Rattle.record.specs.declared.inner.layout.Layout.{Layout}
 use Rattle.wire.specs.Bytes.{number_at, same_bytes}
 use Rattle.record.specs.Layout.{layout_of}
 use Rattle.record.specs.Read.{split_count, version_at, read_of}
 use Rattle.record.specs.Calls.{length_holds, version_holds, again_of, body_holds, load_of}
 use Rattle.record.specs.Accepted.{accepted_bytes}
-use Rattle.wire.proofs.Bytes.{same_of, same_is, false_of, never}
+use Rattle.wire.proofs.Bytes.{same_of, same_is, never}
 use Rattle.record.proofs.Loading.{load_short}
 use Rattle.record.proofs.NumbersAgain.{Bytes}
 use Rattle.record.proofs.AcceptedParts.{accepted_parts}
@@ -63,26 +64,26 @@ module _ (bytes : List ℕ) (all : Bytes bytes) (told : length_holds bytes ≡ t
     where
       go : (b : Bool) → body_holds bytes ≡ b → body_holds bytes ≡ accepted_bytes bytes
       go true e = e ∙ sym (holds_accepted e)
-      go false e = e ∙ sym (false_of (accepted_bytes bytes) (λ a. never (sym e ∙ accepted_holds a)))
+      go false e = e ∙ sym (false_from_ne_true (accepted_bytes bytes) (λ a. never (sym e ∙ accepted_holds a)))
 
 -- ---- load, by the rules
 load_is : (bytes : List ℕ)
     → load_of bytes
-    ≡ guarded (test (length_holds bytes) 6 ∷ test (version_holds bytes) 7 ∷ test (body_holds bytes) 8 ∷ []) (λ k. refuse k blank_trainer) (taken (read_of bytes))
+    ≡ checked (check (length_holds bytes) BadLength ∷ check (version_holds bytes) UnknownVersion ∷ check (body_holds bytes) BadField ∷ []) (Ok (read_of bytes))
 unfolding load_of
 load_is bytes = refl
 
 -- so that load, of any bytes, refuses by the rules
 pub load_exactly : (bytes : List ℕ) → Bytes bytes
     → load_of bytes
-    ≡ guarded (test (length_holds bytes) 6 ∷ test (version_holds bytes) 7 ∷ test (accepted_bytes bytes) 8 ∷ []) (λ k. refuse k blank_trainer) (taken (read_of bytes))
+    ≡ checked (check (length_holds bytes) BadLength ∷ check (version_holds bytes) UnknownVersion ∷ check (accepted_bytes bytes) BadField ∷ []) (Ok (read_of bytes))
 load_exactly bytes all = go (length_holds bytes) refl
   where
     go : (b : Bool) → length_holds bytes ≡ b
         → load_of bytes
-        ≡ guarded (test (length_holds bytes) 6 ∷ test (version_holds bytes) 7 ∷ test (accepted_bytes bytes) 8 ∷ []) (λ k. refuse k blank_trainer) (taken (read_of bytes))
+        ≡ checked (check (length_holds bytes) BadLength ∷ check (version_holds bytes) UnknownVersion ∷ check (accepted_bytes bytes) BadField ∷ []) (Ok (read_of bytes))
     go false e = sym (load_short bytes e) ∙ rw e
     go true e =
         load_is bytes
-        ∙ ap (λ (b : Bool). guarded (test (length_holds bytes) 6 ∷ test (version_holds bytes) 7 ∷ test b 8 ∷ []) (λ k. refuse k blank_trainer) (taken (read_of bytes)))
+        ∙ ap (λ (b : Bool). checked (check (length_holds bytes) BadLength ∷ check (version_holds bytes) UnknownVersion ∷ check b BadField ∷ []) (Ok (read_of bytes)))
         (accepted_exactly bytes all e)

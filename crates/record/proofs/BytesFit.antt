@@ -1,23 +1,23 @@
 -- The settings and the trainer that bytes stand for fit their types. Assumes nothing.
-use mathlib.Core.Path.{◌≡◌, sym, ap, subst}
+use mathlib.Core.Path.{◌≡◌, sym, subst}
 use mathlib.Core.Bool.{Bool, true, false, cond}
-use mathlib.Core.List.{List}
-use Prim.Native.Nat.{ℕ, suc, ◌+◌}
+use mathlib.Core.List.{List, [], ◌∷◌}
+use Prim.Native.Nat.{ℕ, ◌+◌}
 use native.Mathlib.Omega.{arith}
 use lib.Dec.{T, ltb}
 use lib.Ieee.{binary64, fits}
 use lib.Ieee.Bits.{of_bits-fits}
 use mir.Syntax.{w32}
 use mir.ValLaws.{to_z-Fits}
+use Rattle.std.specs.Prelude.{Ok}
+use Rattle.refusal.specs.declared.Refusal.TheVariants.{BadField, BadLength, UnknownVersion}
+use Rattle.refusal.specs.Guards.{check, checked}
 use Rattle.remy.specs.Cube as cube
 use Rattle.rule_tree.specs.declared.Node.{Node}
 use Rattle.rule_tree.specs.Nodes.{no_node, no_action, blank_node, node_count, node_holding, action_in}
 use Rattle.rule_tree.proofs.Plain.{ActionFits, PointFits}
 use Rattle.rule_tree.proofs.Lists.{length_tabulate, get_d_tabulate}
 use Rattle.trainer.specs.declared.Trainer.{Trainer}
-use Rattle.trainer.specs.declared.Answered.{Answered}
-use Rattle.trainer.specs.Phases.{refuse, taken}
-use Rattle.trainer.specs.Calls.{blank_trainer}
 use Rattle.wire.specs.Bytes.{number_at}
 use Rattle.record.specs.declared.inner.layout.Layout.{Layout}
 use Rattle.record.specs.Layout.{layout_of, given_action, list_place, state_place}
@@ -120,20 +120,15 @@ read_fits lay bytes h =
       score = of_bits-fits binary64 (number_at bytes (at + 23) 8);
     }
 
-refusal : (k : ℕ) (t : Trainer) → refuse (suc k) blank_trainer ≡ taken t → ⊥
-refusal k t e = let q : suc k ≡ 0 = ap (λ (a : Answered). a.refused) e in omega arith
-
-pub loaded_is : (bytes : List ℕ) (t : Trainer) → load_of bytes ≡ taken t → read_of bytes ≡ t
+pub loaded_is : (bytes : List ℕ) (t : Trainer) → load_of bytes ≡ Ok t → read_of bytes ≡ t
 unfolding load_of
 loaded_is bytes t e = go (length_holds bytes) (version_holds bytes) (body_holds bytes) e
   where
-    go : (l v b : Bool)
-        → cond l (cond v (cond b (taken (read_of bytes)) (refuse 8 blank_trainer)) (refuse 7 blank_trainer)) (refuse 6 blank_trainer) ≡ taken t
-        → read_of bytes ≡ t
-    go true true true q = ap (λ (a : Answered). a.trainer) q
-    go true true false q = absurd (refusal 7 t q)
-    go true false b q = absurd (refusal 6 t q)
-    go false v b q = absurd (refusal 5 t q)
+    go : (l v b : Bool) → checked (check l BadLength ∷ check v UnknownVersion ∷ check b BadField ∷ []) (Ok (read_of bytes)) ≡ Ok t → read_of bytes ≡ t
+    go true true true q = cc
+    go true true false q = absurd (cc)
+    go true false b q = absurd (cc)
+    go false v b q = absurd (cc)
 
-pub loaded_fits : (bytes : List ℕ) (t : Trainer) → Bytes bytes → load_of bytes ≡ taken t → TrainerFits t
+pub loaded_fits : (bytes : List ℕ) (t : Trainer) → Bytes bytes → load_of bytes ≡ Ok t → TrainerFits t
 loaded_fits bytes t h e = subst TrainerFits (loaded_is bytes t e) (read_fits (layout_of (version_at bytes)) bytes h)

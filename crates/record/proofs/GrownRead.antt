@@ -7,18 +7,18 @@ use mathlib.Core.Logic.{⊎_elim}
 use Prim.Native.Nat.{ℕ, ◌+◌, ◌<◌, ◌≤◌}
 use borrow.Author.Tests.{lt-ltb, le-ltb}
 use lib.Dec.{ltb}
-use lib.Ieee.{to_bits}
 use Rattle.remy.specs.declared.action.Action.{Action}
 use Rattle.remy.specs.Action.{valid_of}
 use Rattle.rule_tree.specs.declared.Node.{Node}
 use Rattle.rule_tree.specs.Lists.{tabulate}
-use Rattle.rule_tree.specs.Nodes.{node_at_of, node_count, blank_node, action_in}
+use Rattle.rule_tree.specs.Nodes.{node_at_of, node_count, action_in}
 use Rattle.rule_tree.specs.Grown.{plain_of, slot_holds, ends_hold, grown_of}
 use Rattle.rule_tree.proofs.Lists.{all_below_at, all_below_all}
 use Rattle.rule_tree.proofs.LinkWays.{slot_used, slot_unused, grown_rest}
 use Rattle.rule_tree.proofs.Links as links
 use Rattle.rule_tree.proofs.Owners.{below_or_not}
 use Rattle.rule_tree.proofs.Plain.{and_l, and_r}
+use Rattle.rule_tree.proofs.Changing.{blank_plain}
 use Rattle.record.specs.declared.inner.layout.Layout.{Layout}
 use Rattle.record.specs.Layout.{list_place}
 use Rattle.wire.specs.Fields.{action_at}
@@ -27,10 +27,6 @@ use Rattle.record.specs.Accepted.{flag_accepted, node_accepted, splits_accepted,
 use Rattle.record.proofs.Reading.{node_given}
 use Rattle.record.proofs.TreeRead.{used_read, unused_read, carried_read}
 use Rattle.record.proofs.SplitsTest.{splits_linked}
-
-blank_plain : plain_of blank_node ≡ true
-unfolding plain_of to_bits
-blank_plain = refl
 
 -- what is asked of node i, where it is written
 abbrev pub node_test : Layout → List ℕ → ℕ → ℕ → Bool

@@ -5,6 +5,7 @@ pub mod Size
 pub mod Stands
 pub mod RoundTrip
 pub mod Loading
+pub mod Loaded
 pub mod BytesFit
 pub mod TreesFit
 pub mod StepsFit

@@ -22,9 +22,9 @@ use Rattle.trainer.specs.declared.settings.Settings.{Settings}
 use Rattle.trainer.specs.Settings.{actions_hold, settings_hold}
 use Rattle.trainer.proofs.Holds.{parts}
 use Rattle.record.specs.declared.inner.layout.Layout.{Layout}
-use Rattle.wire.specs.Bytes.{bytes_of, number_at, flag_byte}
+use Rattle.wire.specs.Bytes.{bytes_of, number_at, flag_byte, shorts_bytes}
 use Rattle.wire.specs.Fields.{float_bytes, action_bytes, point_bytes}
-use Rattle.record.specs.Write.{settings_bytes, numbers_bytes}
+use Rattle.record.specs.Write.{settings_bytes}
 use Rattle.wire.specs.Fields.{float_at, action_at, flag_at, point_at}
 use Rattle.record.specs.Read.{settings_at, split_at_place}
 use Rattle.record.specs.Accepted.{flag_accepted}
@@ -167,12 +167,12 @@ module _ (bytes : List ℕ) where
 
     -- ---- a list of numbers
     pub list_again : (at : ℕ) (xs : List ℕ) → at + 2 * length xs ≤ length bytes → ((k : ℕ) → k < length xs → get_or xs k 0 ≡ split_at_place bytes at k)
-        → Stands bytes at (numbers_bytes xs)
-    unfolding numbers_bytes
+        → Stands bytes at (shorts_bytes xs)
+    unfolding shorts_bytes
     list_again at [] l h = nothing_stands at
     list_again at (x ∷ xs) l h =
         let e : x ≡ number_at bytes at 2 = h 0 (omega arith) ∙ ap (λ (k : ℕ). number_at bytes k 2) (let z : at + 2 * 0 ≡ at = omega arith in z) in
-        joined at 2 (bytes_of 2 x) (numbers_bytes xs) (bytes_count 2 x)
+        joined at 2 (bytes_of 2 x) (shorts_bytes xs) (bytes_count 2 x)
         (subst (λ (n : ℕ). Stands bytes at (bytes_of 2 n)) (sym e) (number_stands_again at 2 (omega arith)))
         (list_again (at + 2) xs (omega arith)
         (λ k b. h (suc k) (omega arith) ∙ ap (λ (j : ℕ). number_at bytes j 2) (let z : at + 2 * suc k ≡ at + 2 + 2 * k = omega arith in z)))

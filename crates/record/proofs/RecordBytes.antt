@@ -11,10 +11,10 @@ use Rattle.rule_tree.specs.Cubes.{split_nodes}
 use Rattle.trainer.specs.declared.settings.Settings.{Settings}
 use Rattle.trainer.specs.declared.Trainer.{Trainer}
 use Rattle.record.specs.declared.inner.layout.Layout.{Layout}
-use Rattle.wire.specs.Bytes.{bytes_of, flag_byte}
+use Rattle.wire.specs.Bytes.{bytes_of, flag_byte, shorts_bytes}
 use Rattle.record.specs.Layout.{carries}
 use Rattle.wire.specs.Fields.{action_bytes, point_bytes}
-use Rattle.record.specs.Write.{settings_bytes, numbers_bytes, end_bytes, splits_bytes, node_bytes, payload_bytes, state_bytes, body_in, record_in}
+use Rattle.record.specs.Write.{settings_bytes, end_bytes, splits_bytes, node_bytes, payload_bytes, state_bytes, body_in, record_in}
 use Rattle.record.specs.Parts.{node_fields}
 use Rattle.wire.proofs.Bytes.{bytes_below}
 use Rattle.record.proofs.NumbersAgain.{Bytes}
@@ -61,8 +61,8 @@ small_settings s =
     (small_action_then s.initial_action_change (small_action_then s.max_action_change
     (small_action s.default_action))))))))
 
-small_list : (xs : List ℕ) → Small (numbers_bytes xs)
-unfolding numbers_bytes
+small_list : (xs : List ℕ) → Small (shorts_bytes xs)
+unfolding shorts_bytes
 small_list [] = small_none
 small_list (x ∷ xs) = small_then 2 x (small_list xs)
 

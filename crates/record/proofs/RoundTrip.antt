@@ -4,7 +4,7 @@ use mathlib.Core.Path.{◌≡◌, refl, sym, ap, subst, ◌∙◌}
 use mathlib.Core.Bool.{Bool, true, false, ◌||◌, cond}
 use mathlib.Core.List.{List, [], ◌∷◌, ◌++◌}
 use mathlib.Core.Logic.{⊎_elim}
-use Prim.Native.Nat.{ℕ, zero, suc, ◌+◌, ◌*◌, ◌/◌, ◌^◌, ◌<◌, ◌≤◌}
+use Prim.Native.Nat.{ℕ, ◌+◌, ◌*◌, ◌/◌, ◌^◌, ◌<◌, ◌≤◌}
 use native.Mathlib.Omega.{arith}
 use lib.Dec.{T, eqb}
 use lib.Ieee.{binary64, fits}
@@ -16,17 +16,17 @@ use Rattle.rule_tree.specs.Lists.{tabulate, count_below}
 use Rattle.rule_tree.specs.Nodes.{no_node, node_at_of, node_count, children_of, node_holding, action_in}
 use Rattle.rule_tree.specs.Cubes.{split_nodes, owner_below}
 use Rattle.rule_tree.specs.Grown.{grown_of}
-use Rattle.rule_tree.proofs.Lists.{length_tabulate, get_d_tabulate}
+use Rattle.rule_tree.proofs.Lists.{length_tabulate, get_d_tabulate, count_below_same}
 use Rattle.rule_tree.proofs.LinkWays.{children_at}
 use Rattle.rule_tree.proofs.Owners.{same_or_not, below_or_not}
 use Rattle.rule_tree.proofs.Links as links
 use Rattle.rule_tree_laws.proofs.Sound.{kids, TreeFits, Sound, grown_sound}
 use Rattle.trainer.specs.declared.Trainer.{Trainer}
 use Rattle.record.specs.declared.inner.layout.Layout.{Layout}
-use Rattle.wire.specs.Bytes.{bytes_of}
+use Rattle.wire.specs.Bytes.{bytes_of, shorts_bytes}
 use Rattle.record.specs.Layout.{carries, given_action, ends_size, list_place, nodes_place, state_place}
 use Rattle.wire.specs.Fields.{float_bytes, point_bytes, action_bytes}
-use Rattle.record.specs.Write.{numbers_bytes, node_bytes, state_bytes, record_in}
+use Rattle.record.specs.Write.{node_bytes, state_bytes, record_in}
 use Rattle.record.specs.Read.{settings_at, ends_at, split_count, split_at_place, link_of, carried_at, payload_place, node_at_place, tree_at, trainer_at, read_in}
 use Rattle.wire.proofs.Bytes.{bytes_count, never}
 use Rattle.record.proofs.Reading.{node_is, unused_is, node_read, node_given, ends_read, ends_given, tree_given, tree_read, trainer_read}
@@ -76,7 +76,7 @@ module _ (lay : Layout) (v : ℕ) (t : Trainer) (f : TrainerFits t) (g : grown_o
   count_back =
       let l = few t.tree g full in
       number_back bytes (118 + ends_size lay) 2 s (omega arith)
-      (first bytes (118 + ends_size lay) (bytes_of 2 s) (numbers_bytes (take s (split_nodes (children_of t.tree.nodes)))) (splits_place lay v t g full))
+      (first bytes (118 + ends_size lay) (bytes_of 2 s) (shorts_bytes (take s (split_nodes (children_of t.tree.nodes)))) (splits_place lay v t g full))
 
   split_back : (k : ℕ) (l : k < s) → split_at_place bytes list k ≡ (links.grown_owner t.tree g full k l).at
   split_back k l =
@@ -87,8 +87,8 @@ module _ (lay : Layout) (v : ℕ) (t : Trainer) (f : TrainerFits t) (g : grown_o
       let e : get_or (take s ps) k 0 ≡ o.at = get_or-take s ps k 0 l ∙ o.split in
       number_back bytes (list + 2 * k) 2 (get_or (take s ps) k 0) (omega (arith, o.low))
       (list_stands bytes list k (take s ps) (omega arith)
-      (moved bytes (118 + ends_size lay + 2) list (numbers_bytes (take s ps)) (omega arith)
-      (next bytes (118 + ends_size lay) 2 (bytes_of 2 s) (numbers_bytes (take s ps)) (bytes_count 2 s) (splits_place lay v t g full))))
+      (moved bytes (118 + ends_size lay + 2) list (shorts_bytes (take s ps)) (omega arith)
+      (next bytes (118 + ends_size lay) 2 (bytes_of 2 s) (shorts_bytes (take s ps)) (bytes_count 2 s) (splits_place lay v t g full))))
       ∙ e
 
   owner_kids : (k : ℕ) (l : k < s) → kids t.tree (links.grown_owner t.tree g full k l).at ≡ 8 * k + 1
@@ -123,12 +123,7 @@ module _ (lay : Layout) (v : ℕ) (t : Trainer) (f : TrainerFits t) (g : grown_o
   held_same i l = ap (carries lay) (link_back i l)
 
   count_same : (n : ℕ) → n ≤ 513 → count_below n (carried_at lay bytes s) ≡ count_below n held
-  unfolding count_below
-  count_same zero l = refl
-  count_same (suc n) l =
-      let h = count_same n (omega arith) in
-      ap (λ (b : Bool). cond b 1 0 + count_below n (carried_at lay bytes s)) (held_same n (omega arith))
-      ∙ ap (λ (k : ℕ). cond (held n) 1 0 + k) h
+  count_same n l = count_below_same n (carried_at lay bytes s) held (λ i h. held_same i (omega arith))
 
   place_same : (i : ℕ) → i ≤ 513 → payload_place lay bytes s i ≡ nodes_place lay s + 21 * count_below i held
   place_same i l = ap (λ (k : ℕ). nodes_place lay s + 21 * k) (count_same i l)

@@ -1,22 +1,21 @@
 -- The rules hold of every record that is written of an accepted trainer, in every known version that carries it. Assumes nothing.
-use mathlib.Core.Path.{◌≡◌, refl, sym, ap, ◌∙◌}
+use mathlib.Core.Path.{◌≡◌, refl, sym, ◌∙◌}
 use mathlib.Core.Bool.{Bool, true, false, ◌&&◌}
 use mathlib.Core.List.{List, [], ◌∷◌}
 use mathlib.Core.Logic.{⊎_elim}
-use Prim.Native.Nat.{ℕ, ◌+◌, ◌<◌, ◌≤◌}
+use Prim.Native.Nat.{ℕ, ◌<◌, ◌≤◌}
 use native.Mathlib.Omega.{arith}
 use borrow.Author.Tests.{ne_eqb, leb-true}
 use lib.Dec.{eqb, leb}
-use Rattle.refusal.specs.Guards.{test, guarded}
+use Rattle.std.specs.Prelude.{Ok}
+use Rattle.refusal.specs.declared.Refusal.TheVariants.{BadField, BadLength, UnknownVersion}
+use Rattle.refusal.specs.Guards.{check, checked}
 use Rattle.rule_tree.specs.Grown.{grown_of}
 use Rattle.rule_tree.proofs.Owners.{below_or_not}
 use Rattle.rule_tree.proofs.Plain.{and_r}
 use Rattle.trainer.specs.declared.Trainer.{Trainer}
-use Rattle.trainer.specs.declared.Answered.{Answered}
 use Rattle.trainer.specs.Settings.{settings_hold}
 use Rattle.trainer.specs.State.{box_holds, phase_holds, accepted_of}
-use Rattle.trainer.specs.Phases.{refuse, taken}
-use Rattle.trainer.specs.Calls.{blank_trainer}
 use Rattle.record.specs.Layout.{layout_of, known_of}
 use Rattle.record.specs.Write.{version, record_in, record_of}
 use Rattle.record.specs.Read.{read_of}
@@ -30,17 +29,14 @@ use Rattle.record.proofs.AcceptedBytes.{load_exactly}
 use Rattle.record.proofs.RecordBytes.{record_bytes_lem}
 
 -- ---- what load takes is accepted
-pub taken_accepted : (bytes : List ℕ) (t : Trainer) → Bytes bytes → load_of bytes ≡ taken t → accepted_bytes bytes ≡ true
+pub taken_accepted : (bytes : List ℕ) (t : Trainer) → Bytes bytes → load_of bytes ≡ Ok t → accepted_bytes bytes ≡ true
 taken_accepted bytes t all e = go (length_holds bytes) (version_holds bytes) (accepted_bytes bytes) (sym (load_exactly bytes all) ∙ e)
   where
-    other : (k : ℕ) → refuse (k + 1) blank_trainer ≡ taken t → ⊥
-    other k z = let q : k + 1 ≡ 0 = ap (λ (r : Answered). r.refused) z in omega arith
-
-    go : (a b c : Bool) → guarded (test a 6 ∷ test b 7 ∷ test c 8 ∷ []) (λ k. refuse k blank_trainer) (taken (read_of bytes)) ≡ taken t → c ≡ true
+    go : (a b c : Bool) → checked (check a BadLength ∷ check b UnknownVersion ∷ check c BadField ∷ []) (Ok (read_of bytes)) ≡ Ok t → c ≡ true
     go true true true z = refl
-    go true true false z = absurd (other 7 z)
-    go true false c z = absurd (other 6 z)
-    go false b c z = absurd (other 5 z)
+    go true true false z = absurd (cc)
+    go true false c z = absurd (cc)
+    go false b c z = absurd (cc)
 
 -- "phase is 1..=7"
 pub phase_few : (t : Trainer) → accepted_of t ≡ true → t.phase < 8

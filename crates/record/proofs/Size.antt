@@ -23,15 +23,15 @@ use Rattle.rule_tree.proofs.Links as links
 use Rattle.trainer.specs.declared.settings.Settings.{Settings}
 use Rattle.trainer.specs.declared.Trainer.{Trainer}
 use Rattle.record.specs.declared.inner.layout.Layout.{Layout}
-use Rattle.wire.specs.Bytes.{bytes_of}
+use Rattle.wire.specs.Bytes.{bytes_of, shorts_bytes}
 use Rattle.record.specs.Layout.{layout_of, carries, ends_size, nodes_in, size_in}
 use Rattle.wire.specs.Fields.{point_bytes}
-use Rattle.record.specs.Write.{settings_bytes, splits_bytes, numbers_bytes, end_bytes, node_bytes, payload_bytes, state_bytes, version, body_in, record_in, record_of}
+use Rattle.record.specs.Write.{settings_bytes, splits_bytes, end_bytes, node_bytes, payload_bytes, state_bytes, version, body_in, record_in, record_of}
 use Rattle.record.specs.Parts.{node_fields}
-use Rattle.wire.proofs.Bytes.{bytes_count}
+use Rattle.wire.proofs.Bytes.{bytes_count, shorts_count}
 use Rattle.wire.proofs.Stores.{wrote}
 use Rattle.record.proofs.Layouts.{size_most, size_third}
-use Rattle.record.proofs.Writing.{settings_count, state_count, list_count, point_count_lem}
+use Rattle.record.proofs.Writing.{settings_count, state_count, point_count_lem}
 
 -- ---- sums over the splits
 abbrev sum_below : ℕ → (ℕ → ℕ) → ℕ
@@ -203,9 +203,9 @@ pub splits_count : (t : RuleTree) → t.splits ≤ 64 → length (splits_bytes t
 splits_count t l =
     let ps = split_nodes (children_of t.nodes) in
     let a = length_tabulate 64 (λ k. owner_below 513 (children_of t.nodes) (8 * k + 1)) in
-    let b = list_count (take t.splits ps) in
+    let b = shorts_count (take t.splits ps) in
     let d = length-take-le t.splits ps (omega arith) in
-    length-append (bytes_of 2 t.splits) (numbers_bytes (take t.splits ps)) ∙ omega (arith, bytes_count 2 t.splits)
+    length-append (bytes_of 2 t.splits) (shorts_bytes (take t.splits ps)) ∙ omega (arith, bytes_count 2 t.splits)
 
 joined_count : (v : ℕ) (a b c d e : List ℕ)
     → length (v ∷ (a ++ (b ++ (c ++ (d ++ e))))) ≡ 1 + (length a + (length b + (length c + (length d + length e))))

@@ -22,9 +22,9 @@ use Rattle.rule_tree.specs.Nodes.{node_at_of}
 use Rattle.rule_tree.proofs.Plain.{ActionFits, PointFits}
 use Rattle.trainer.specs.declared.settings.Settings.{Settings}
 use Rattle.record.specs.declared.inner.layout.Layout.{Layout}
-use Rattle.wire.specs.Bytes.{bytes_of, number_at, flag_byte}
+use Rattle.wire.specs.Bytes.{bytes_of, number_at, flag_byte, shorts_bytes}
 use Rattle.wire.specs.Fields.{float_bytes, action_bytes, point_bytes}
-use Rattle.record.specs.Write.{settings_bytes, numbers_bytes, node_bytes, payload_bytes}
+use Rattle.record.specs.Write.{settings_bytes, node_bytes, payload_bytes}
 use Rattle.wire.specs.Fields.{float_at, action_at, flag_at, point_at}
 use Rattle.record.specs.Read.{settings_at, ends_at}
 use Rattle.record.specs.Parts.{node_fields}
@@ -106,13 +106,13 @@ module _ (bytes : List ℕ) where
       λ j. record { ack_ewma = record { 0 = x j }; send_ewma = record { 0 = y j }; rtt_ratio = z j }
 
   -- ---- a list of numbers, and the nodes' part
-  pub list_stands : (at k : ℕ) (xs : List ℕ) → k < length xs → Stands bytes at (numbers_bytes xs) → Stands bytes (at + 2 * k) (bytes_of 2 (get_or xs k 0))
-  unfolding numbers_bytes
+  pub list_stands : (at k : ℕ) (xs : List ℕ) → k < length xs → Stands bytes at (shorts_bytes xs) → Stands bytes (at + 2 * k) (bytes_of 2 (get_or xs k 0))
+  unfolding shorts_bytes
   list_stands at k [] l h = absurd (omega arith)
-  list_stands at zero (x ∷ xs) l h = moved at (at + 2 * 0) (bytes_of 2 x) (omega arith) (first at (bytes_of 2 x) (numbers_bytes xs) h)
+  list_stands at zero (x ∷ xs) l h = moved at (at + 2 * 0) (bytes_of 2 x) (omega arith) (first at (bytes_of 2 x) (shorts_bytes xs) h)
   list_stands at (suc k) (x ∷ xs) l h =
       moved (at + 2 + 2 * k) (at + 2 * suc k) (bytes_of 2 (get_or xs k 0)) (omega arith)
-      (list_stands (at + 2) k xs (omega arith) (next at 2 (bytes_of 2 x) (numbers_bytes xs) (bytes_count 2 x) h))
+      (list_stands (at + 2) k xs (omega arith) (next at 2 (bytes_of 2 x) (shorts_bytes xs) (bytes_count 2 x) h))
 
   pub node_stands : (lay : Layout) (at : ℕ) (nodes : List Node) (i n : ℕ) → i < n → carried lay nodes i ≡ true → Stands bytes at (payload_bytes lay nodes n)
       → Stands bytes (at + 21 * count_below i (carried lay nodes)) (node_bytes (node_at_of nodes i))

@@ -9,24 +9,26 @@ use borrow.Author.Tests.{eqb-true}
 use lib.Dec.{T, eqb, ltb, leb}
 use lib.ListN.{length, get_or}
 use lib.Ieee.{Float, binary64, fits}
+use Rattle.std.specs.Prelude.{Option, Some, None, Result, Ok, IfOk}
+use Rattle.std.proofs.lemmas.Result.{IfOk-at_ok}
+use Rattle.refusal.specs.declared.Refusal.{Refusal}
+use Rattle.refusal.specs.Guards.{Check, checked}
+use Rattle.refusal.proofs.Guards.{in_each}
 use Rattle.rule_tree.specs.declared.RuleTree.{RuleTree}
-use Rattle.rule_tree.specs.declared.Chosen.{Chosen}
-use Rattle.rule_tree.specs.declared.Chosen.TheVariants.{Leaf, Nobody, Refused}
 use Rattle.rule_tree.specs.Lists.{total}
 use Rattle.rule_tree.specs.Nodes.{node_at_of, action_in}
-use Rattle.rule_tree.specs.Counts.{counts_hold, used_in}
+use Rattle.rule_tree.specs.Counts.{used_in}
 use Rattle.rule_tree.specs.Change.{fresh_tree, with_action, with_mark, without_marks}
 use Rattle.rule_tree.proofs.GrownTree.{leaf_below}
 use Rattle.rule_tree_laws.proofs.Sound.{TreeFits}
 use Rattle.trainer.specs.declared.settings.Settings.{Settings}
 use Rattle.trainer.specs.declared.Trainer.{Trainer}
-use Rattle.trainer.specs.declared.Answered.{Answered}
 use Rattle.trainer.specs.Settings.{settings_hold}
 use Rattle.trainer.specs.Candidates.{candidates_of, no_candidate}
 use Rattle.trainer.specs.State.{none, stand, at_leaf_of, zero_bits_of, untried_in, untried, idle, leaf_action, leaf_holds, try_holds_of, splitting, tuning, ending, accepted_of}
-use Rattle.trainer.specs.Phases.{begin_stage, begin_round, most_used_in, split_most_used, phase1, phase2, next_round, tune_next, marked, try_from, keeps, after_last, tried, phase5}
-use Rattle.trainer.specs.Change.{settings_fit, changed_to, change_of}
-use Rattle.trainer.specs.Calls.{started, wants_counts, wants_score, counts_step_of, answer_counts_of, score_step, answer_score_of}
+use Rattle.trainer.specs.Phases.{begin_stage, begin_round, most_used_in, split_most_used, room_order, phase1, phase2, next_round, tune_next, marked, try_from, keeps, after_last, tried, phase5}
+use Rattle.trainer.specs.Change.{changed_to, change_order, change_of}
+use Rattle.trainer.specs.Calls.{started, wants_score, counts_step_of, counts_order, answer_counts_of, score_step, score_order, answer_score_of}
 use Rattle.trainer.proofs.Holds.{and_left, and_right}
 use Rattle.trainer.proofs.CandidateLaws.{candidates_few}
 use Rattle.trainer.proofs.AcceptedFacts.{phase_cases, accepted_settings, accepted_phase, accepted_few, accepted_bounds, leaf_named, k_listed, kept_listed}
@@ -46,9 +48,16 @@ either : (b : Bool) (x y : Trainer) → Fit x → Fit y → Fit (cond b x y)
 either true x y f g = f
 either false x y f g = g
 
-answered : (b : Bool) (x y : Answered) → Fit x.trainer → Fit y.trainer → Fit (cond b x y).trainer
-answered true x y f g = f
-answered false x y f g = g
+-- an answer whose trainer fits, if it has one
+abbrev Fits : Result Trainer Refusal → Type 0
+Fits r = IfOk r Fit
+
+answered : (ts : List Check) (r : Result Trainer Refusal) → Fits r → Fits (checked ts r)
+answered ts r f = in_each r Fits (λ e. tt) f ts
+
+choice : (b : Bool) (x y : Result Trainer Refusal) → Fits x → Fits y → Fits (cond b x y)
+choice true x y f g = f
+choice false x y f g = g
 
 module _ (s : Settings) (f : SettingsFits s) (t : RuleTree) (g : TreeFits t) where
   stand_fits : (p i r : ℕ) → Fit (stand s t p i r)
@@ -65,46 +74,42 @@ module _ (s : Settings) (f : SettingsFits s) (t : RuleTree) (g : TreeFits t) whe
 module _ (t : Trainer) (f : Fit t) where
   -- ---- counts
   module _ (xs : List ℕ) where
-    one_fits : Fit (phase1 t xs).trainer
+    one_fits : Fits (phase1 t xs)
     unfolding phase1
     one_fits =
         let tree = split_most_used t.tree xs in
         let g = split_fits t.tree f.tree _ in
-        answered (ltb t.tree.splits 64) _ _
+        answered (room_order t) _
         (either (t.settings.drill_down && leb (used_in xs) 1) _ _ (stand_fits t.settings f.settings tree g 2 t.stage 0)
         (round-fits t.settings f.settings tree g t.stage 0))
-        f
 
-    two_fits : Fit (phase2 t xs).trainer
+    two_fits : Fits (phase2 t xs)
     unfolding phase2
     two_fits =
-        answered (ltb 1 (used_in xs)) _ _ (round-fits t.settings f.settings t.tree f.tree t.stage 0)
-        (answered (ltb t.tree.splits 64) _ _
-        (stand_fits t.settings f.settings (split_most_used t.tree xs) (split_fits t.tree f.tree _) 2 t.stage 0) f)
+        choice (ltb 1 (used_in xs)) _ _ (round-fits t.settings f.settings t.tree f.tree t.stage 0)
+        (answered (room_order t) _
+        (stand_fits t.settings f.settings (split_most_used t.tree xs) (split_fits t.tree f.tree _) 2 t.stage 0))
 
     next_fits : Fit (next_round t)
     next_fits = round-fits t.settings f.settings (without_marks t.tree) (clear_fits t.tree f.tree) t.stage (t.round + 1)
 
-    tune_fits : (m : Chosen) → Fit (tune_next t xs m)
+    tune_fits : (m : Option ℕ) → Fit (tune_next t xs m)
     unfolding tune_next
-    tune_fits (Leaf i) =
+    tune_fits (Some i) =
         either (eqb (get_or xs i 0) 0 && not (eqb (total xs) 0)) _ _ next_fits
         (record { settings = f.settings; tree = f.tree; best = zero-fits; score = zero-fits })
-    tune_fits Nobody = next_fits
-    tune_fits (Refused k) = next_fits
+    tune_fits None = next_fits
 
-    step_fits : Fit (counts_step_of t xs).trainer
+    step_fits : Fits (counts_step_of t xs)
     unfolding counts_step_of
     step_fits =
-        answered (eqb t.phase 1) _ _ one_fits
-        (answered (eqb t.phase 2) _ _ two_fits
-        (answered (eqb t.phase 3) _ _ (tune_fits (most_used_in t.tree xs true)) (stand_fits t.settings f.settings t.tree f.tree 7 t.stage 0)))
+        choice (eqb t.phase 1) _ _ one_fits
+        (choice (eqb t.phase 2) _ _ two_fits
+        (choice (eqb t.phase 3) _ _ (tune_fits (most_used_in t.tree xs true)) (stand_fits t.settings f.settings t.tree f.tree 7 t.stage 0)))
 
-    counts_fit : Fit (answer_counts_of t xs).trainer
+    counts_fit : Fits (answer_counts_of t xs)
     unfolding answer_counts_of
-    counts_fit =
-        answered (accepted_of t) _ _
-        (answered (wants_counts t.phase) _ _ (answered (counts_hold t.tree xs) _ _ step_fits f) f) f
+    counts_fit = answered (counts_order t xs) _ step_fits
 
   -- ---- a score
   module _ (h : settings_hold t.settings ≡ true) where
@@ -141,9 +146,9 @@ module _ (t : Trainer) (f : Fit t) where
       unfolding score_step
       tries_fit = either (eqb t.phase 4) _ _ (from_fits t.tree x f.tree b) five_fits
 
-      score_fit : Fit (answer_score_of t x).trainer
+      score_fit : Fits (answer_score_of t x)
       unfolding answer_score_of
-      score_fit = answered (accepted_of t) _ _ (answered (wants_score t.phase) _ _ tries_fit f) f
+      score_fit = answered (score_order t) _ tries_fit
 
   -- ---- new settings
   module _ (s : Settings) (g : SettingsFits s) where
@@ -153,9 +158,9 @@ module _ (t : Trainer) (f : Fit t) where
         either (wants_score t.phase) (at_leaf_of s t.tree t.stage t.round t.leaf) (stand s t.tree t.phase t.stage t.round)
         (record { settings = g; tree = f.tree; best = zero-fits; score = zero-fits }) (stand_fits s g t.tree f.tree t.phase t.stage t.round)
 
-    change_fit : Fit (change_of t s).trainer
+    change_fit : Fits (change_of t s)
     unfolding change_of
-    change_fit = answered (accepted_of t) _ _ (answered (settings_hold s) _ _ (answered (settings_fit t s) _ _ new_fits f) f) f
+    change_fit = answered (change_order t s) _ new_fits
 
 -- ---- the numbers of an accepted trainer
 abbrev Small : Trainer → Type 0
@@ -234,12 +239,12 @@ pub started_fits : (s : Settings) → SettingsFits s → accepted_of (started s)
 started_fits s f a =
     whole_fits (started s) a (round-fits s f (fresh_tree s.ends s.default_action) (fresh_fits s.ends s.default_action f.ends f.default) 0 0)
 
-pub counted_fits : (t : Trainer) (xs : List ℕ) → TrainerFits t → accepted_of (answer_counts_of t xs).trainer ≡ true → TrainerFits (answer_counts_of t xs).trainer
-counted_fits t xs f a = whole_fits (answer_counts_of t xs).trainer a (counts_fit t (part t f) xs)
+pub counted_fits : (t : Trainer) (xs : List ℕ) (u : Trainer) → TrainerFits t → answer_counts_of t xs ≡ Ok u → accepted_of u ≡ true → TrainerFits u
+counted_fits t xs u f e a = whole_fits u a (IfOk-at_ok Fit e (counts_fit t (part t f) xs))
 
-pub scored_fits : (t : Trainer) (x : Float) → TrainerFits t → T (fits binary64 x) → accepted_of t ≡ true → accepted_of (answer_score_of t x).trainer ≡ true
-    → TrainerFits (answer_score_of t x).trainer
-scored_fits t x f b h a = whole_fits (answer_score_of t x).trainer a (score_fit t (part t f) (accepted_settings t h) x b)
+pub scored_fits : (t : Trainer) (x : Float) (u : Trainer) → TrainerFits t → T (fits binary64 x) → accepted_of t ≡ true → answer_score_of t x ≡ Ok u
+    → accepted_of u ≡ true → TrainerFits u
+scored_fits t x u f b h e a = whole_fits u a (IfOk-at_ok Fit e (score_fit t (part t f) (accepted_settings t h) x b))
 
-pub changed_fits : (t : Trainer) (s : Settings) → TrainerFits t → SettingsFits s → accepted_of (change_of t s).trainer ≡ true → TrainerFits (change_of t s).trainer
-changed_fits t s f g a = whole_fits (change_of t s).trainer a (change_fit t (part t f) s g)
+pub changed_fits : (t : Trainer) (s : Settings) (u : Trainer) → TrainerFits t → SettingsFits s → change_of t s ≡ Ok u → accepted_of u ≡ true → TrainerFits u
+changed_fits t s u f g e a = whole_fits u a (IfOk-at_ok Fit e (change_fit t (part t f) s g))

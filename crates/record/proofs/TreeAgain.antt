@@ -19,10 +19,10 @@ use Rattle.rule_tree.proofs.Links as links
 use Rattle.trainer.specs.declared.Trainer.{Trainer}
 use Rattle.trainer.proofs.Holds.{parts}
 use Rattle.record.specs.declared.inner.layout.Layout.{Layout}
-use Rattle.wire.specs.Bytes.{bytes_of}
+use Rattle.wire.specs.Bytes.{bytes_of, shorts_bytes}
 use Rattle.record.specs.Layout.{given_action, ends_size, list_place, nodes_place}
 use Rattle.wire.specs.Fields.{action_bytes, point_bytes}
-use Rattle.record.specs.Write.{numbers_bytes, splits_bytes, end_bytes, node_bytes, payload_bytes}
+use Rattle.record.specs.Write.{splits_bytes, end_bytes, node_bytes, payload_bytes}
 use Rattle.wire.specs.Fields.{action_at, point_at}
 use Rattle.record.specs.Read.{settings_at, split_count, split_at_place, carried_at, payload_place, node_at_place, tree_at, trainer_at}
 use Rattle.record.specs.Parts.{node_fields}
@@ -129,7 +129,7 @@ module _ (lay : Layout) (bytes : List ℕ) (all : Bytes bytes) (h : Accepted lay
   splits_stand =
       let size = h.size in
       let e = ps_long in
-      joined bytes (118 + ends_size lay) 2 (bytes_of 2 s) (numbers_bytes ps) (bytes_count 2 s)
+      joined bytes (118 + ends_size lay) 2 (bytes_of 2 s) (shorts_bytes ps) (bytes_count 2 s)
       (number_stands_again bytes all (118 + ends_size lay) 2 (omega arith))
-      (moved bytes (list_place lay) (118 + ends_size lay + 2) (numbers_bytes ps) (omega arith)
+      (moved bytes (list_place lay) (118 + ends_size lay + 2) (shorts_bytes ps) (omega arith)
       (list_again bytes all (list_place lay) ps (omega arith) split_again))

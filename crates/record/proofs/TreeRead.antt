@@ -3,7 +3,7 @@ use mathlib.Core.Path.{◌≡◌, refl, sym, ap, ◌∙◌}
 use mathlib.Core.Bool.{Bool, true, false, ◌||◌, cond}
 use mathlib.Core.List.{List}
 use mathlib.Core.Logic.{⊎_elim}
-use Prim.Native.Nat.{ℕ, zero, suc, ◌+◌, ◌*◌, ◌<◌, ◌≤◌}
+use Prim.Native.Nat.{ℕ, ◌+◌, ◌*◌, ◌<◌, ◌≤◌}
 use native.Mathlib.Omega.{arith}
 use borrow.Author.Tests.{eq-eqb}
 use lib.ListN.{length, get_or, get_or-eq_default}
@@ -11,7 +11,7 @@ use Rattle.remy.specs.declared.action.Action.{Action}
 use Rattle.rule_tree.specs.declared.Node.{Node}
 use Rattle.rule_tree.specs.Lists.{tabulate, count_below}
 use Rattle.rule_tree.specs.Nodes.{no_node, node_at_of, node_count, children_of, blank_node, node_holding}
-use Rattle.rule_tree.proofs.Lists.{length_tabulate, get_d_tabulate}
+use Rattle.rule_tree.proofs.Lists.{length_tabulate, get_d_tabulate, count_below_same}
 use Rattle.rule_tree.proofs.LinkWays.{children_at, children_count}
 use Rattle.rule_tree.proofs.Owners.{below_or_not}
 use Rattle.record.specs.declared.inner.layout.Layout.{Layout}
@@ -83,12 +83,7 @@ module _ (lay : Layout) (a : Action) (bytes : List ℕ) (s : ℕ) (few : s ≤ 6
   held_same i l = ap (carries lay) (used_link i l)
 
   pub count_same : (n : ℕ) → n ≤ node_count s → count_below n (carried lay nodes) ≡ count_below n (carried_at lay bytes s)
-  unfolding count_below
-  count_same zero l = refl
-  count_same (suc n) l =
-      let r = count_same n (omega arith) in
-      ap (λ (b : Bool). cond b 1 0 + count_below n (carried lay nodes)) (held_same n (omega arith))
-      ∙ ap (λ (k : ℕ). cond (carried_at lay bytes s n) 1 0 + k) r
+  count_same n l = count_below_same n (carried lay nodes) (carried_at lay bytes s) (λ i h. held_same i (omega arith))
 
   pub place_same : (i : ℕ) → i ≤ node_count s → nodes_place lay s + 21 * count_below i (carried lay nodes) ≡ payload_place lay bytes s i
   place_same i l = ap (λ (k : ℕ). nodes_place lay s + 21 * k) (count_same i l)

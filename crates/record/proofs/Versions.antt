@@ -8,6 +8,7 @@ use native.Mathlib.Omega.{arith}
 use borrow.Author.Tests.{ne_eqb}
 use lib.Dec.{eqb, ltb}
 use lib.ListN.{length}
+use Rattle.std.specs.Prelude.{Ok}
 use Rattle.remy.specs.declared.action.Action.{Action}
 use Rattle.remy.specs.Cube.{usual_ends}
 use Rattle.rule_tree.specs.declared.Node.{Node}
@@ -19,7 +20,6 @@ use Rattle.rule_tree.proofs.Links.{grown_splits}
 use Rattle.rule_tree.proofs.Undoing.{newest_before, newest_children, undo_parent}
 use Rattle.rule_tree_laws.proofs.Sound.{kids}
 use Rattle.trainer.specs.declared.Trainer.{Trainer}
-use Rattle.trainer.specs.Phases.{taken}
 use Rattle.trainer.specs.State.{accepted_of}
 use Rattle.record.specs.declared.inner.layout.Layout.{Layout}
 use Rattle.wire.specs.Bytes.{bytes_of}
@@ -75,7 +75,7 @@ read_carried lay bytes =
       box = refl;
     }
 
-pub loaded_carried : (bytes : List ℕ) (t : Trainer) → load_of bytes ≡ taken t → Carried (layout_of (version_at bytes)) t
+pub loaded_carried : (bytes : List ℕ) (t : Trainer) → load_of bytes ≡ Ok t → Carried (layout_of (version_at bytes)) t
 loaded_carried bytes t e = subst (Carried (layout_of (version_at bytes))) (loaded_is bytes t e) (read_carried (layout_of (version_at bytes)) bytes)
 
 -- ---- "written again as version 3"
@@ -84,7 +84,7 @@ unfolding record_in bytes_of
 saved_version t = refl
 
 -- what is saved of a loaded trainer loads as that trainer, whatever version it came from
-pub load_saved_again : (bytes : List ℕ) (t : Trainer) → Bytes bytes → load_of bytes ≡ taken t → load_of (record_of t) ≡ taken t
+pub load_saved_again : (bytes : List ℕ) (t : Trainer) → Bytes bytes → load_of bytes ≡ Ok t → load_of (record_of t) ≡ Ok t
 load_saved_again bytes t h e = load_saved t (loaded_fits bytes t h e) (load_again bytes t e).accepted
 
 -- ---- "A version 1 record still loads, its parents holding the default action, unmarked"
@@ -96,7 +96,7 @@ pub record FirstLoaded (bytes : List ℕ) (t : Trainer) : Type 0 where
       → node_at_of t.tree.nodes i ≡ node_holding t.settings.default_action (kids t.tree i) false
   pub ends : t.settings.ends ≡ usual_ends
 
-module _ (bytes : List ℕ) (t : Trainer) (e : load_of bytes ≡ taken t) (v : version_at bytes ≡ 1) where
+module _ (bytes : List ℕ) (t : Trainer) (e : load_of bytes ≡ Ok t) (v : version_at bytes ≡ 1) where
   first_carried : Carried (layout_of 1) t
   first_carried = subst (λ (n : ℕ). Carried (layout_of n) t) v (loaded_carried bytes t e)
 
@@ -122,7 +122,7 @@ module _ (bytes : List ℕ) (t : Trainer) (e : load_of bytes ≡ taken t) (v : v
       (load_first_is.parents i (omega (arith, b, grown_splits t.tree g)) (λ z. absurd (omega (arith, z, c))))
 
 -- every such trainer loads from its version 1 record
-pub load_first : (t : Trainer) → TrainerFits t → FirstLoaded (record_in (layout_of 1) 1 t) t → load_of (record_in (layout_of 1) 1 t) ≡ taken t
+pub load_first : (t : Trainer) → TrainerFits t → FirstLoaded (record_in (layout_of 1) 1 t) t → load_of (record_in (layout_of 1) 1 t) ≡ Ok t
 load_first t f h =
     load_carried 1 refl t f h.accepted
     (record { parents = λ i l z. h.parents i l (λ q. never (sym z ∙ ap (λ (c : ℕ). eqb c 0) q)); ends = λ z. h.ends; box = accepted_ends t f h.accepted })
@@ -137,7 +137,7 @@ pub record SecondLoaded (bytes : List ℕ) (t : Trainer) : Type 0 where
   pub written : record_in (layout_of 2) 2 t ≡ bytes
   pub ends : t.settings.ends ≡ usual_ends
 
-pub load_second_is : (bytes : List ℕ) (t : Trainer) → load_of bytes ≡ taken t → version_at bytes ≡ 2 → SecondLoaded bytes t
+pub load_second_is : (bytes : List ℕ) (t : Trainer) → load_of bytes ≡ Ok t → version_at bytes ≡ 2 → SecondLoaded bytes t
 load_second_is bytes t e v =
     record {
       accepted = (load_again bytes t e).accepted;
@@ -145,7 +145,7 @@ load_second_is bytes t e v =
       ends = (subst (λ (n : ℕ). Carried (layout_of n) t) v (loaded_carried bytes t e)).ends refl;
     }
 
-pub load_second : (t : Trainer) → TrainerFits t → SecondLoaded (record_in (layout_of 2) 2 t) t → load_of (record_in (layout_of 2) 2 t) ≡ taken t
+pub load_second : (t : Trainer) → TrainerFits t → SecondLoaded (record_in (layout_of 2) 2 t) t → load_of (record_in (layout_of 2) 2 t) ≡ Ok t
 load_second t f h =
     load_carried 2 refl t f h.accepted (carried_parents (layout_of 2) t refl (λ z. h.ends) (accepted_ends t f h.accepted))
 

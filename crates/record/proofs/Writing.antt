@@ -1,7 +1,7 @@
 -- What the writers store, part by part, is the record's own parts; and how long those are. Assumes nothing.
 use mathlib.Core.Path.{◌≡◌, refl, sym, ap, subst, ◌∙◌}
 use mathlib.Core.Bool.{Bool, true, false, cond}
-use mathlib.Core.List.{List, [], ◌∷◌, ◌++◌, append_assoc, append-nil}
+use mathlib.Core.List.{List, [], ◌∷◌, ◌++◌, append_assoc}
 use mathlib.Core.Logic.{⊎_elim}
 use Prim.Native.Nat.{ℕ, zero, suc, ◌+◌, ◌*◌, ◌<◌, ◌≤◌}
 use native.Mathlib.Nat.{eq-or-lt_of_le}
@@ -9,20 +9,21 @@ use native.Mathlib.Numerals.{add-one}
 use native.Mathlib.Omega.{arith}
 use lib.Ieee.{binary64, to_bits}
 use lib.ListN.{length, get_or, set, take, length-append}
-use lib.Seq.{sets, take-suc, length-take-le}
+use lib.Seq.{sets}
+use Rattle.std.proofs.lemmas.List.{length-take, get_or-take, length-take-le}
 use Rattle.remy.specs.declared.action.Action.{Action}
 use Rattle.remy.specs.declared.point.Point.{Point}
 use Rattle.rule_tree.specs.declared.Node.{Node}
 use Rattle.rule_tree.specs.declared.RuleTree.{RuleTree}
-use Rattle.rule_tree.specs.Nodes.{node_at_of, children_of, action_in}
+use Rattle.rule_tree.specs.Nodes.{no_node, node_at_of, children_of, node_count, action_in}
 use Rattle.rule_tree.specs.Cubes.{split_nodes}
 use Rattle.trainer.specs.declared.settings.Settings.{Settings}
 use Rattle.trainer.specs.declared.Trainer.{Trainer}
 use Rattle.record.specs.declared.inner.layout.Layout.{Layout}
-use Rattle.wire.specs.Bytes.{bytes_of, flag_byte}
+use Rattle.wire.specs.Bytes.{bytes_of, flag_byte, shorts_bytes}
 use Rattle.record.specs.Layout.{carries, ends_size}
 use Rattle.wire.specs.Fields.{action_bytes, point_bytes}
-use Rattle.record.specs.Write.{settings_bytes, numbers_bytes, splits_bytes, end_bytes, node_bytes, payload_bytes, state_bytes}
+use Rattle.record.specs.Write.{settings_bytes, splits_bytes, node_bytes, payload_bytes, state_bytes}
 use Rattle.record.specs.Parts.{number_fields, action_fields, place_fields, trial_fields, node_fields}
 use Rattle.wire.proofs.Bytes.{bytes_count}
 use Rattle.wire.proofs.Stores.{wrote}
@@ -64,62 +65,16 @@ settings_written l at s {l1} p q = wrote l l1 at 13 (number_fields s) (action_fi
 pub settings_count : (s : Settings) → length (settings_bytes s) ≡ 113
 settings_count s = simp (length-append, bytes_count)
 
--- ---- a list of numbers
-pub numbers_append : (xs ys : List ℕ) → numbers_bytes (xs ++ ys) ≡ numbers_bytes xs ++ numbers_bytes ys
-unfolding numbers_bytes
-numbers_append [] ys = refl
-numbers_append (x ∷ xs) ys = ap (λ (r : List ℕ). bytes_of 2 x ++ r) (numbers_append xs ys) ∙ sym (append_assoc (bytes_of 2 x) (numbers_bytes xs) (numbers_bytes ys))
-
-pub list_count : (xs : List ℕ) → length (numbers_bytes xs) ≡ 2 * length xs
-unfolding numbers_bytes
-list_count [] = refl
-list_count (x ∷ xs) = let h = list_count xs in simp length-append (omega arith)
-
-list_one : (x : ℕ) → numbers_bytes (x ∷ []) ≡ bytes_of 2 x
-unfolding numbers_bytes
-list_one x = append-nil (bytes_of 2 x)
-
--- the loop that stores the numbers: one more
-pub list_turn : (l : List ℕ) (at : ℕ) (xs : List ℕ) (k : ℕ) {l1 l2 : List ℕ} → k < length xs → l1 ≡ sets l at (numbers_bytes (take k xs))
-    → l2 ≡ sets l1 (at + 2 * k) (bytes_of 2 (get_or xs k 0)) → l2 ≡ sets l at (numbers_bytes (take (k + 1) xs))
-list_turn l at xs k {l1} h p q =
-    wrote l l1 at (2 * k) (numbers_bytes (take k xs)) (bytes_of 2 (get_or xs k 0)) q p
-    (list_count (take k xs) ∙ ap (λ (n : ℕ). 2 * n) (length-take-le k xs (omega arith)))
-    ∙ ap (sets l at) (sym (ap (λ (n : ℕ). numbers_bytes (take n xs)) (add-one k) ∙ ap numbers_bytes (take-suc xs k 0 h)
-    ∙ numbers_append (take k xs) (get_or xs k 0 ∷ []) ∙ ap (λ (r : List ℕ). numbers_bytes (take k xs) ++ r) (list_one (get_or xs k 0))))
-
-pub list_none : (l : List ℕ) (at : ℕ) (xs : List ℕ) → l ≡ sets l at (numbers_bytes (take 0 xs))
-unfolding numbers_bytes
-list_none l at xs = refl
-
-pub list_done : (l m : List ℕ) (at : ℕ) (xs : List ℕ) (k n : ℕ) → k ≤ n → n ≤ k → m ≡ sets l at (numbers_bytes (take k xs)) → m ≡ sets l at (numbers_bytes (take n xs))
-list_done l m at xs k n a b e = e ∙ ap (λ (j : ℕ). sets l at (numbers_bytes (take j xs))) (let q : k ≡ n = omega arith in q)
-
-pub splits_written : (l : List ℕ) (at : ℕ) (t : RuleTree) (cs ps : List ℕ) {l1 l2 : List ℕ} → cs ≡ children_of t.nodes → ps ≡ split_nodes cs
-    → l1 ≡ sets l at (bytes_of 2 t.splits) → l2 ≡ sets l1 (at + 2) (numbers_bytes (take t.splits ps)) → l2 ≡ sets l at (splits_bytes t)
-splits_written l at t cs ps {l1} {l2} ec ep p q =
-    wrote l l1 at 2 (bytes_of 2 t.splits) (numbers_bytes (take t.splits ps)) q p (bytes_count 2 t.splits)
-    ∙ ap (λ (r : List ℕ). sets l at (bytes_of 2 t.splits ++ numbers_bytes (take t.splits r))) (ep ∙ ap split_nodes ec)
+-- ---- the list of splits
+pub splits_written : (l : List ℕ) (at : ℕ) (t : RuleTree) (ps : List ℕ) {l1 l2 : List ℕ} → ps ≡ split_nodes (children_of t.nodes)
+    → l1 ≡ sets l at (bytes_of 2 t.splits) → l2 ≡ sets l1 (at + 2) (shorts_bytes (take t.splits ps)) → l2 ≡ sets l at (splits_bytes t)
+splits_written l at t ps {l1} {l2} e p q =
+    wrote l l1 at 2 (bytes_of 2 t.splits) (shorts_bytes (take t.splits ps)) q p (bytes_count 2 t.splits)
+    ∙ ap (λ (r : List ℕ). sets l at (bytes_of 2 t.splits ++ shorts_bytes (take t.splits r))) e
 
 -- ---- the ends
 pub point_count_lem : (p : Point) → length (point_bytes p) ≡ 24
 point_count_lem p = simp (length-append, bytes_count)
-
-pub ends_written : (l : List ℕ) (at : ℕ) (lay : Layout) (s : Settings) {l1 : List ℕ} → lay.ends ≡ true → l1 ≡ sets l at (point_bytes s.ends)
-    → (at + 24 ≡ at + ends_size lay) × (l1 ≡ sets l at (end_bytes lay s))
-unfolding ends_size
-ends_written l at lay s e p = (
-  ap (λ (b : Bool). at + cond b 24 0) (sym e),
-  p ∙ ap (λ (b : Bool). sets l at (cond b (point_bytes s.ends) [])) (sym e),
-)
-
-pub ends_skipped : (l : List ℕ) (at : ℕ) (lay : Layout) (s : Settings) → lay.ends ≡ false
-    → (at ≡ at + ends_size lay) × (l ≡ sets l at (end_bytes lay s))
-unfolding ends_size
-ends_skipped l at lay s e = (
-  (let z : at ≡ at + 0 = omega arith in z) ∙ ap (λ (b : Bool). at + cond b 24 0) (sym e),
-  ap (λ (b : Bool). sets l at (cond b (point_bytes s.ends) [])) (sym e),
-)
 
 -- the bytes that are needed at a place for the ends
 pub ends_room : (lay : Layout) → lay.ends ≡ true → ends_size lay ≡ 24
@@ -150,6 +105,22 @@ pub payload_suc : (lay : Layout) (nodes : List Node) (i : ℕ) → payload_bytes
 unfolding payload_bytes
 payload_suc lay nodes i = refl
 
+-- one of the first n
+pub taken : {A : Type 0} (d : A) (xs : List A) (n i : ℕ) → i < length (take n xs) → (get_or (take n xs) i d ≡ get_or xs i d) × (i < n)
+taken d xs n i l =
+    let b : i < n = omega (arith, length-take n xs) in
+    (get_or-take n xs i d b, b)
+
+-- the nodes' part of the first n nodes alone
+payload_front : (lay : Layout) (nodes : List Node) (n i : ℕ) → i ≤ n → payload_bytes lay (take n nodes) i ≡ payload_bytes lay nodes i
+unfolding payload_bytes
+payload_front lay nodes n zero l = refl
+payload_front lay nodes n (suc i) l = λ z. payload_front lay nodes n i (omega arith) z ++ node_fields lay (get_or-take n nodes i no_node (omega arith) z)
+
+payload_taken : (lay : Layout) (nodes : List Node) (n : ℕ) → n ≤ length nodes
+    → payload_bytes lay (take n nodes) (length (take n nodes)) ≡ payload_bytes lay nodes n
+payload_taken lay nodes n h = ap (payload_bytes lay (take n nodes)) (length-take-le n nodes h) ∙ payload_front lay nodes n n (omega arith)
+
 -- the first n nodes' part, and one more node
 pub payload_more : (lay : Layout) (nodes : List Node) (i : ℕ) → payload_bytes lay nodes (i + 1) ≡ payload_bytes lay nodes i ++ node_fields lay (node_at_of nodes i)
 payload_more lay nodes i = ap (payload_bytes lay nodes) (add-one i) ∙ payload_suc lay nodes i
@@ -162,6 +133,12 @@ payload_grows lay nodes i (suc n) l =
     ⊎_elim (λ (p : i ≡ n). subst (λ (k : ℕ). length (payload_bytes lay nodes k) + length (node_fields lay (node_at_of nodes k)) ≤ length (payload_bytes lay nodes (suc n))) (sym p) (omega arith))
     (λ (q : i < n). let h = payload_grows lay nodes i n q in omega arith)
     (eq-or-lt_of_le (let q : i ≤ n = omega arith in q))
+
+-- those that a tree uses
+pub payload_used : (lay : Layout) (t : RuleTree) (s : ℕ) → s ≡ t.splits → node_count t.splits ≤ length t.nodes
+    → payload_bytes lay (take (1 + 8 * s) t.nodes) (length (take (1 + 8 * s) t.nodes)) ≡ payload_bytes lay t.nodes (node_count t.splits)
+payload_used lay t s e h =
+    ap (λ (k : ℕ). payload_bytes lay (take (1 + 8 * k) t.nodes) (length (take (1 + 8 * k) t.nodes))) e ∙ payload_taken lay t.nodes (node_count t.splits) h
 
 pub nodes_none : (l : List ℕ) (at : ℕ) (lay : Layout) (nodes : List Node) → (at ≡ at + length (payload_bytes lay nodes 0)) × (l ≡ sets l at (payload_bytes lay nodes 0))
 unfolding payload_bytes

@@ -26,6 +26,10 @@ given_action s = s.default_action
 abbrev pub length_size : ℕ
 length_size = 4
 
+-- 6: "the u32 over 16,384"
+abbrev pub most_length : ℕ
+most_length = 16384
+
 abbrev pub settings_place : ℕ
 settings_place = length_size + 1
 

@@ -1,12 +1,10 @@
 -- What the private functions of the code are held to: parts of the record, as it is written and read.
-use Rattle.std.specs.Prelude.{cond, List, [], ◌∷◌, ◌++◌, ℕ}
-use Rattle.refusal.specs.Numbers.{bad_field}
+use Rattle.std.specs.Prelude.{cond, List, [], ◌∷◌, ◌++◌, ℕ, Result, Ok, Err}
+use Rattle.refusal.specs.declared.Refusal.{Refusal}
+use Rattle.refusal.specs.declared.Refusal.TheVariants.{BadField}
 use Rattle.rule_tree.specs.declared.Node.{Node}
 use Rattle.trainer.specs.declared.settings.Settings.{Settings}
 use Rattle.trainer.specs.declared.Trainer.{Trainer}
-use Rattle.trainer.specs.declared.Answered.{Answered}
-use Rattle.trainer.specs.Phases.{refuse, taken}
-use Rattle.trainer.specs.Calls.{blank_trainer}
 use Rattle.record.specs.declared.inner.layout.Layout.{Layout}
 use Rattle.wire.specs.Bytes.{bytes_of, flag_byte}
 use Rattle.record.specs.Layout.{carries}
@@ -37,5 +35,5 @@ abbrev pub node_fields : Layout → Node → List ℕ
 node_fields l x = cond (carries l x.children) (node_bytes x) []
 
 -- what load answers once the length and the version hold
-abbrev pub body_taken : List ℕ → Answered
-body_taken bytes = cond (body_holds bytes) (taken (read_of bytes)) (refuse bad_field blank_trainer)
+abbrev pub body_taken : List ℕ → Result Trainer Refusal
+body_taken bytes = cond (body_holds bytes) (Ok (read_of bytes)) (Err BadField)

@@ -7,7 +7,7 @@ use Rattle.rule_tree.specs.Cubes.{split_nodes}
 use Rattle.trainer.specs.declared.settings.Settings.{Settings}
 use Rattle.trainer.specs.declared.Trainer.{Trainer}
 use Rattle.record.specs.declared.inner.layout.Layout.{Layout}
-use Rattle.wire.specs.Bytes.{bytes_of, flag_byte}
+use Rattle.wire.specs.Bytes.{bytes_of, flag_byte, shorts_bytes}
 use Rattle.record.specs.Layout.{layout_of, carries}
 use Rattle.wire.specs.Fields.{float_bytes, action_bytes, point_bytes}
 
@@ -18,15 +18,9 @@ settings_bytes s =
     action_bytes s.min_action ++ (action_bytes s.max_action ++ (action_bytes s.initial_action_change ++ (
     action_bytes s.max_action_change ++ action_bytes s.default_action)))))))
 
--- "each split's node u16"
-unfoldable pub numbers_bytes : List ℕ → List ℕ
-unfolding bytes_of
-numbers_bytes [] = []
-numbers_bytes (x ∷ xs) = bytes_of 2 x ++ numbers_bytes xs
-
 -- "u16 split count; each split's node u16"
 abbrev pub splits_bytes : RuleTree → List ℕ
-splits_bytes t = bytes_of 2 t.splits ++ numbers_bytes (take t.splits (split_nodes (children_of t.nodes)))
+splits_bytes t = bytes_of 2 t.splits ++ shorts_bytes (take t.splits (split_nodes (children_of t.nodes)))
 
 -- "its action and mark byte"
 abbrev pub node_bytes : Node → List ℕ
@@ -57,7 +51,7 @@ body_in l v t =
 
 -- "u32 length of all that follows"
 unfoldable pub record_in : Layout → ℕ → Trainer → List ℕ
-unfolding bytes_of numbers_bytes payload_bytes
+unfolding bytes_of shorts_bytes payload_bytes
 record_in l v t = bytes_of 4 (length (body_in l v t)) ++ body_in l v t
 
 -- what is saved: older versions "are written again as version 3"

@@ -4,43 +4,40 @@
 ghost use Rattle.std.specs.Prelude.{◌≡◌};
 ghost use Rattle.record.specs.Calls.{save_of, buffer_after, load_of};
 
-use crate::inner::{body, layout, read, write};
-use trainer::{Answered, Trainer};
+use crate::inner::layout::{Layout, VERSION};
+use crate::inner::{body, read, write};
+use refusal::Refusal;
+use trainer::Trainer;
 
 pub mod inner;
 
-#[derive(Clone, Copy)]
-pub enum Saved {
-    Size(usize),
-    Refused(u32),
-}
-
 // Writes the record of t, and answers its size. A refused save writes nothing.
-pub fn save(t: Trainer, buf: &mut [u8]) -> Saved
+#[tactic(auto, unfolding(crate::specs::Calls::save_of, crate::specs::Calls::buffer_after))]
+pub fn save(t: Trainer, buf: &mut [u8]) -> Result<usize, Refusal>
     ensures { (result ≡ save_of t buf.old) × (buf.new ≡ buffer_after t buf.old (save_of t buf.old)) }
 {
-    if t.accepted() {
-        let tree = t.tree;
-        let l = layout::of_version(3);
-        let size = layout::size(l, tree.splits);
-        if size <= buf.len() {
-            write::write(buf, l, 3, t);
-            return Saved::Size(size);
-        }
-        return Saved::Refused(refusal::SHORT_BUFFER);
+    if !t.accepted() {
+        return Err(Refusal::NotGrown);
     }
-    Saved::Refused(refusal::NOT_GROWN)
+    let l = Layout::of_version(VERSION);
+    let size = l.size(t.tree.splits);
+    if size > buf.len() {
+        return Err(Refusal::ShortBuffer);
+    }
+    write::write(buf, l, VERSION, &t);
+    Ok(size)
 }
 
-// The trainer whose record the bytes are; a refused load hands back the blank one.
-pub fn load(bytes: &[u8]) -> Answered
+// The trainer whose record the bytes are.
+#[tactic(auto, unfolding(crate::specs::Calls::load_of))]
+pub fn load(bytes: &[u8]) -> Result<Trainer, Refusal>
     ensures { result ≡ load_of bytes.now }
 {
-    if read::length_holds(bytes) {
-        if read::version_holds(bytes) {
-            return body::read_body(bytes);
-        }
-        return body::refused(7);
+    if !read::length_holds(bytes) {
+        return Err(Refusal::BadLength);
     }
-    body::refused(6)
+    if !read::version_holds(bytes) {
+        return Err(Refusal::UnknownVersion);
+    }
+    body::read_body(bytes)
 }
