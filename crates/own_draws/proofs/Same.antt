@@ -3,11 +3,12 @@ use mathlib.Core.Path.{◌≡◌, refl, ap, ◌∙◌}
 use mathlib.Core.Bool.{Bool, true, false}
 use mathlib.Core.List.{List, [], ◌∷◌}
 use lib.Ieee.{Float}
+use Rattle.std.specs.Prelude.{Result, Ok, Err}
+use Rattle.refusal.specs.declared.Refusal.{Refusal}
 use Rattle.rule_tree.specs.declared.RuleTree.{RuleTree}
 use Rattle.rule_tree.specs.Grown.{grown_of}
 use Rattle.sender.specs.declared.Sender.{Sender}
-use Rattle.sender.specs.declared.Reply.{Reply}
-use Rattle.sender.specs.declared.Reply.TheVariants.{Taken, Refused}
+use Rattle.sender.specs.declared.Held.{Held}
 use Rattle.sender.specs.Sender.{ack_of, replied_to, left_by}
 use Rattle.xoshiro.specs.declared.State.{State}
 use Rattle.xoshiro.specs.Xoshiro.{zeros_of, next_of}
@@ -35,13 +36,13 @@ same_call s g (send at) e = refl
 same_call s g tick e = refl
 
 -- the generator is never four zeros
-pub after_zeros : (due : Bool) (r : Reply) (g : State) → zeros_of g ≡ false → zeros_of (generator_after due r g (next_of g)) ≡ false
+pub after_zeros : (due : Bool) (r : Result Held Refusal) (g : State) → zeros_of g ≡ false → zeros_of (generator_after due r g (next_of g)) ≡ false
 unfolding generator_after
-after_zeros true (Taken h) g e = never_zeros g e
-after_zeros false (Taken h) g e = e
-after_zeros due (Refused k) g e = e
+after_zeros true (Ok h) g e = never_zeros g e
+after_zeros false (Ok h) g e = e
+after_zeros due (Err k) g e = e
 
-pub steps_zeros : (s : Sender) (g : State) (c : OwnCall) (r : Reply) → zeros_of g ≡ false → zeros_of (steps_to s g c r) ≡ false
+pub steps_zeros : (s : Sender) (g : State) (c : OwnCall) (r : Result Held Refusal) → zeros_of g ≡ false → zeros_of (steps_to s g c r) ≡ false
 unfolding steps_to
 steps_zeros s g (ack t sent received) r e = after_zeros (due_of s) r g e
 steps_zeros s g (send at) r e = e
@@ -55,7 +56,7 @@ same_replies s g (c ∷ cs) e =
     let r = replied_to s (handing s g c) in
     let h = steps_to s g c r in
     ap (λ (d : Drawing). d.reply ∷ own_replies (left_by s d.reply) d.generator cs) (same_call s g c e)
-    ∙ ap (λ (rs : List Reply). r ∷ rs) (same_replies (left_by s r) h cs (steps_zeros s g c r e))
+    ∙ ap (λ (rs : List (Result Held Refusal)). r ∷ rs) (same_replies (left_by s r) h cs (steps_zeros s g c r e))
 
 -- the sender that is left
 pub same_end : (s : Sender) (g : State) (cs : List OwnCall) → zeros_of g ≡ false → own_end s g cs ≡ end_of s (handed_calls s g cs)

@@ -1,9 +1,9 @@
 -- 02, wish 7: "The sender with drawn numbers equals the sender that is handed the same ones", over lists of calls.
-use Rattle.std.specs.Prelude.{List, [], ◌∷◌, Float}
+use Rattle.std.specs.Prelude.{List, [], ◌∷◌, Float, Result, Ok}
+use Rattle.refusal.specs.declared.Refusal.{Refusal}
 use Rattle.rule_tree.specs.declared.RuleTree.{RuleTree}
 use Rattle.sender.specs.declared.Sender.{Sender}
-use Rattle.sender.specs.declared.Reply.{Reply}
-use Rattle.sender.specs.declared.Reply.TheVariants.{Taken}
+use Rattle.sender.specs.declared.Held.{Held}
 use Rattle.sender.specs.SenderCall.{SenderCall}
 use Rattle.sender.specs.SenderCall as call
 use Rattle.sender.specs.Sender.{send_of, tick_of, replied_to, left_by}
@@ -22,10 +22,10 @@ unfoldable pub own_reply_to : Sender → State → OwnCall → Drawing
 unfolding own_ack_of
 own_reply_to s g (ack t sent received) = own_ack_of t s g sent received
 own_reply_to s g (send at) = drawing (send_of s at) g
-own_reply_to s g tick = drawing (Taken (tick_of s)) g
+own_reply_to s g tick = drawing (Ok (tick_of s)) g
 
 -- what a list of calls is answered, each call getting what the last one left
-unfoldable pub own_replies : Sender → State → List OwnCall → List Reply
+unfoldable pub own_replies : Sender → State → List OwnCall → List (Result Held Refusal)
 unfolding own_reply_to left_by
 own_replies s g [] = []
 own_replies s g (c ∷ cs) = (own_reply_to s g c).reply ∷ own_replies (left_by s (own_reply_to s g c).reply) (own_reply_to s g c).generator cs
@@ -48,7 +48,7 @@ handing s g (send at) = call.send at
 handing s g tick = call.tick
 
 -- the generator after a call of the sender that is handed its draw: it steps at an ack that is taken and has a draw due
-unfoldable pub steps_to : Sender → State → OwnCall → Reply → State
+unfoldable pub steps_to : Sender → State → OwnCall → Result Held Refusal → State
 steps_to s g (ack t sent received) r = steps_at s r g
 steps_to s g (send at) r = g
 steps_to s g tick r = g
@@ -62,7 +62,7 @@ handed_calls s g (c ∷ cs) =
     ∷ handed_calls (left_by s (replied_to s (handing s g c))) (steps_to s g c (replied_to s (handing s g c))) cs
 
 -- what that sender answers, and that sender at the end
-unfoldable pub replies : Sender → List (SenderCall RuleTree) → List Reply
+unfoldable pub replies : Sender → List (SenderCall RuleTree) → List (Result Held Refusal)
 unfolding replied_to left_by
 replies s [] = []
 replies s (c ∷ cs) = replied_to s c ∷ replies (left_by s (replied_to s c)) cs

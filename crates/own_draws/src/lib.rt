@@ -6,7 +6,9 @@ ghost use Rattle.own_draws.specs.OwnDraws.{own_ack_of};
 
 use refusal::Refusal;
 use rule_tree::RuleTree;
-use sender::{Reply, Sender};
+use rule_tree::inner::grown::Grown;
+use rule_tree::inner::rules::Rules;
+use sender::{Held, Sender};
 use xoshiro::State;
 
 pub mod inner;
@@ -14,12 +16,12 @@ pub mod inner;
 // The reply to an ack, and the generator after it.
 #[derive(Clone, Copy)]
 pub struct Drawing {
-    pub reply: Reply,
+    pub reply: Result<Held, Refusal>,
     pub generator: State,
 }
 
 // An ack of what was sent at a moment, received at another, over a tree; a due draw is the generator's.
-#[tactic(auto, unfolding(crate::specs::OwnDraws::own_ack_of, refusal::specs::Numbers::number_of))]
+#[tactic(auto, unfolding(crate::specs::OwnDraws::own_ack_of))]
 pub fn ack_received(
     s: Sender,
     generator: State,
@@ -29,11 +31,11 @@ pub fn ack_received(
 ) -> Drawing
     ensures { result ≡ own_ack_of tree s generator sent received }
 {
-    if !tree.grown() {
+    let Ok(grown) = Grown::of(&tree) else {
         return inner::refused(Refusal::NotGrown, generator);
-    }
+    };
     if xoshiro::inner::zeros(generator) {
         return inner::refused(Refusal::ZeroState, generator);
     }
-    inner::taken(tree, s, generator, sent, received)
+    inner::taken(&Rules::of(grown), s, generator, sent, received)
 }

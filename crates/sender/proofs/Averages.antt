@@ -11,12 +11,11 @@ use lib.Ieee.{Float, fin, binary64, emax, round, add, sub, mul, fits}
 use lib.Ieee.Exact.{HasValue}
 use lib.Ieee.Scale.{round_same}
 use lib.Ieee.Positive.{num, den, den_pos}
+use Rattle.std.specs.Prelude.{Some, None}
 use Rattle.floats.specs.Average.{seven_eighths, one_eighth, average}
 use Rattle.floats.proofs.Nonneg.{nonneg, cross, value_nonneg, add_is, mul_is}
 use Rattle.floats.proofs.Middle.{exact, fits→range}
 use Rattle.quantities.specs.Time.{span, moment}
-use Rattle.sender.specs.declared.Moment.TheVariants.{At}
-use Rattle.sender.specs.declared.Average.TheVariants.{Empty, Of}
 use Rattle.sender.specs.Memory.{averaged, average_next}
 
 -- a / c is the value of some binary64, so that nothing is rounded there
@@ -82,14 +81,14 @@ module _ (old gap : Float) (p : T (nonneg old)) (q : T (nonneg gap)) (first : Ex
         (cross (average old gap) _ _ paper)
 
 -- 01, "Gaps 8, 16 average 9"
-pub eight_sixteen : averaged (averaged Empty (span (fin false 1 (pos 3)))) (span (fin false 1 (pos 4)))
-    ≡ Of (span (fin false 9 (pos 0)))
+pub eight_sixteen : averaged (averaged None (span (fin false 1 (pos 3)))) (span (fin false 1 (pos 4)))
+    ≡ Some (span (fin false 9 (pos 0)))
 unfolding averaged add mul
 eight_sixteen = refl
 
 -- the same from the moments 0, 8 and 24
-pub from_moments : average_next (average_next Empty (At (moment (fin false 0 (pos 0)))) (moment (fin false 1 (pos 3))))
-    (At (moment (fin false 1 (pos 3)))) (moment (fin false 3 (pos 3)))
-    ≡ Of (span (fin false 9 (pos 0)))
+pub from_moments : average_next (average_next None (Some (moment (fin false 0 (pos 0)))) (moment (fin false 1 (pos 3))))
+    (Some (moment (fin false 1 (pos 3)))) (moment (fin false 3 (pos 3)))
+    ≡ Some (span (fin false 9 (pos 0)))
 unfolding average_next averaged add sub mul
 from_moments = refl

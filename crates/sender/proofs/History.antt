@@ -5,31 +5,24 @@ use mathlib.Core.Bool.{Bool, true, false, cond}
 use mathlib.Core.List.{List, [], ◌∷◌}
 use Prim.Native.Nat.{ℕ}
 use lib.Ieee.{Float}
-use Rattle.std.specs.Prelude.{Result, Ok, Err}
+use Rattle.std.specs.Prelude.{Option, Some, None, Result, Ok, Err}
+use Rattle.std.specs.Result.{result_err}
 use Rattle.refusal.specs.declared.Refusal.{Refusal}
+use Rattle.refusal.specs.declared.Refusal.TheVariants.{NoRule, NotGrown}
 use Rattle.quantities.specs.declared.Time.{Time}
+use Rattle.quantities.specs.declared.TimeSpan.{TimeSpan}
 use Rattle.quantities.specs.Time.{between, admit_of}
 use Rattle.remy.specs.declared.action.Action.{Action}
 use Rattle.remy.specs.declared.point.Point.{Point}
 use Rattle.remy.specs.Cube as cube
 use Rattle.rule_tree.specs.declared.RuleTree.{RuleTree}
-use Rattle.rule_tree.specs.declared.Looked.{Looked}
-use Rattle.rule_tree.specs.declared.Looked.TheVariants as looked
 use Rattle.rule_tree.specs.Grown.{grown_of}
 use Rattle.rule_tree.specs.Calls.{found_in}
-use Rattle.sender.specs.declared.Moment.{Moment}
-use Rattle.sender.specs.declared.Moment.TheVariants.{At}
-use Rattle.sender.specs.declared.Average.{Average}
 use Rattle.sender.specs.declared.Rtt.{Rtt}
-use Rattle.sender.specs.declared.Pending.{Pending}
-use Rattle.sender.specs.declared.Pending.TheVariants.{Idle, Repeat}
+use Rattle.sender.specs.declared.Repeat.{Repeat}
 use Rattle.sender.specs.declared.RepeatMode.{RepeatMode}
-use Rattle.sender.specs.declared.Draw.{Draw}
 use Rattle.sender.specs.declared.Sender.{Sender}
-use Rattle.sender.specs.declared.Reply.{Reply}
-use Rattle.sender.specs.declared.Reply.TheVariants.{Taken, Refused}
-use Rattle.sender.specs.declared.inner.acks.Drawn.{Drawn}
-use Rattle.sender.specs.declared.inner.acks.Drawn.TheVariants.{Next, Missing}
+use Rattle.sender.specs.declared.Held.{Held}
 use Rattle.sender.specs.Memory.{average_next, rtt_next, value_of, ratio_now, remembered, point_of}
 use Rattle.sender.specs.Acks.{drawn, repeat_next, paced, settled, ack_drawn, ack_with, ack_pending, ack_admitted, ack_in}
 use Rattle.sender.specs.SenderCall.{SenderCall, ack, send, tick}
@@ -37,12 +30,12 @@ use Rattle.sender.specs.Sender.{ack_of, with_send, send_admitted, tick_of, repli
 
 -- what a sender remembers of its acks, with what is pending
 pub record Past : Type 0 where
-  pub last_ack_lem : Moment
-  pub last_ack_send_lem : Moment
-  pub ack_ewma_lem : Average
-  pub send_ewma_lem : Average
-  pub rtt : Rtt
-  pub next_change_lem : Pending
+  pub last_ack_lem : Option Time
+  pub last_ack_send_lem : Option Time
+  pub ack_ewma_lem : Option TimeSpan
+  pub send_ewma_lem : Option TimeSpan
+  pub rtt : Option Rtt
+  pub next_change_lem : Option Repeat
 
 abbrev pub past_of : Sender → Past
 past_of s =
@@ -59,7 +52,7 @@ past_of s =
 abbrev pub point_from : Past → Time → Time → Point
 point_from p sent received =
     cube.point_of (value_of (average_next p.ack_ewma_lem p.last_ack_lem received)) (value_of (average_next p.send_ewma_lem p.last_ack_send_lem sent))
-    (ratio_now (rtt_next p.rtt (between received sent)))
+    (ratio_now (Some (rtt_next p.rtt (between received sent))))
 
 pub point_of_past : (s : Sender) (sent received : Time) → point_of (remembered s sent received) ≡ point_from (past_of s) sent received
 point_of_past s sent received = refl
@@ -85,9 +78,9 @@ run s [] = s
 run s (c ∷ cs) = run (after s c) cs
 
 -- the call alone where it is taken
-unfoldable pub if_taken : Reply → SenderCall RuleTree → List (SenderCall RuleTree) → List (SenderCall RuleTree)
-if_taken (Taken h) c cs = c ∷ cs
-if_taken (Refused k) c cs = cs
+unfoldable pub if_taken : Result Held Refusal → SenderCall RuleTree → List (SenderCall RuleTree) → List (SenderCall RuleTree)
+if_taken (Ok h) c cs = c ∷ cs
+if_taken (Err r) c cs = cs
 
 -- the acks among the calls that are taken where they stand
 unfoldable pub taken_acks : Sender → List (SenderCall RuleTree) → List (SenderCall RuleTree)
@@ -109,80 +102,66 @@ send_same s u at e = go (admit_of at)
   where
     go : (x : Result Time Refusal) → Same (left_by s (send_admitted s x)) u
     go (Ok t) = record { past = e.past; mode = e.mode }
-    go (Err k) = e
+    go (Err r) = e
 
 tick_same : (s u : Sender) → Same s u → Same (tick_of s).sender u
 tick_same s u e = record { past = e.past; mode = e.mode }
 
 -- with another repeat pending
-abbrev pending : Pending → Past → Past
-pending next p =
-    record {
-      last_ack_lem = p.last_ack_lem;
-      last_ack_send_lem = p.last_ack_send_lem;
-      ack_ewma_lem = p.ack_ewma_lem;
-      send_ewma_lem = p.send_ewma_lem;
-      rtt = p.rtt;
-      next_change_lem = next;
-    }
+abbrev pending : Option Repeat → Past → Past
+pending next p = record p { next_change_lem = next }
 
 -- with one ack more
 abbrev grows : Time → Time → Past → Past
 grows sent received p =
-    record {
-      last_ack_lem = At received;
-      last_ack_send_lem = At sent;
+    record p {
+      last_ack_lem = Some received;
+      last_ack_send_lem = Some sent;
       ack_ewma_lem = average_next p.ack_ewma_lem p.last_ack_lem received;
       send_ewma_lem = average_next p.send_ewma_lem p.last_ack_send_lem sent;
-      rtt = rtt_next p.rtt (between received sent);
-      next_change_lem = p.next_change_lem;
+      rtt = Some (rtt_next p.rtt (between received sent));
     }
 
 abbrev looked_at : Past → Point
 looked_at p = cube.point_of (value_of p.ack_ewma_lem) (value_of p.send_ewma_lem) (ratio_now p.rtt)
 
-paced_same : {m n : Sender} (a : Action) (next : Pending) → Same m n → Same (paced m a next) (paced n a next)
+paced_same : {m n : Sender} (a : Action) (next : Option Repeat) → Same m n → Same (paced m a next) (paced n a next)
 paced_same a next e = record { past = ap (pending next) e.past; mode = e.mode }
 
 remembered_same : {s u : Sender} (sent received : Time) → Same s u → Same (remembered s sent received) (remembered u sent received)
 remembered_same sent received e = record { past = ap (grows sent received) e.past; mode = e.mode }
 
--- two answers with the same number, 0 for a taken ack, that leave such senders
-unfoldable pub number_of : Reply → ℕ
-number_of (Taken h) = 0
-number_of (Refused k) = k
-
-pub record Alike (s u : Sender) (r q : Reply) : Type 0 where
+-- two answers that are both taken, or refused for the same, and that leave such senders
+pub record Alike (s u : Sender) (r q : Result Held Refusal) : Type 0 where
   pub leaves : Same (left_by s r) (left_by u q)
-  pub number : number_of r ≡ number_of q
+  pub refusal : result_err r ≡ result_err q
 
--- an ack's number, and the past and the mode after it, are made of the past and the mode before it
-module _ {s u : Sender} (e : Same s u) (t : RuleTree) (draw : Draw) where
-  refused_alike : (k : ℕ) → Alike s u (Refused k) (Refused k)
+-- an ack's refusal, and the past and the mode after it, are made of the past and the mode before it
+module _ {s u : Sender} (e : Same s u) (t : RuleTree) (draw : Option ℕ) where
+  refused_alike : (r : Refusal) → Alike s u (Err r) (Err r)
   unfolding left_by
-  refused_alike k = record { leaves = e; number = refl }
+  refused_alike r = record { leaves = e; refusal = refl }
 
-  settled_alike : {m n : Sender} (a : Action) (next : Pending) → Same m n → Alike s u (settled m a next) (settled n a next)
-  unfolding left_by number_of
-  settled_alike a next mn = record { leaves = paced_same a next mn; number = refl }
+  settled_alike : {m n : Sender} (a : Action) (next : Option Repeat) → Same m n → Alike s u (Ok (settled m a next)) (Ok (settled n a next))
+  unfolding left_by
+  settled_alike a next mn = record { leaves = paced_same a next mn; refusal = refl }
 
-  drawn_alike : {m n : Sender} → Same m n → (a : Action) (d : Drawn) → Alike s u (ack_drawn m a d) (ack_drawn n a d)
+  drawn_alike : {m n : Sender} → Same m n → (a : Action) (d : Result (Option Repeat) Refusal) → Alike s u (ack_drawn m a d) (ack_drawn n a d)
   unfolding ack_drawn
-  drawn_alike mn a (Next next) = settled_alike a next mn
-  drawn_alike mn a Missing = refused_alike 5
+  drawn_alike mn a (Ok next) = settled_alike a next mn
+  drawn_alike mn a (Err r) = refused_alike r
 
-  with_alike : {m n : Sender} → Same m n → (l : Looked) → Alike s u (ack_with m l draw) (ack_with n l draw)
+  with_alike : {m n : Sender} → Same m n → (found : Option Action) → Alike s u (ack_with m found draw) (ack_with n found draw)
   unfolding ack_with
-  with_alike {m} {n} mn (looked.Found a) =
+  with_alike {m} {n} mn (Some a) =
       subst (λ (mode : RepeatMode). Alike s u (ack_drawn m a (drawn m.repeat_actions draw a)) (ack_drawn n a (drawn mode draw a)))
       mn.mode (drawn_alike mn a (drawn m.repeat_actions draw a))
-  with_alike mn looked.Nothing = refused_alike 22
-  with_alike mn (looked.Refused k) = refused_alike 22
+  with_alike mn None = refused_alike NoRule
 
-  pending_alike : {m n : Sender} → Same m n → (p : Pending) → Alike s u (ack_pending t m p draw) (ack_pending t n p draw)
+  pending_alike : {m n : Sender} → Same m n → (p : Option Repeat) → Alike s u (ack_pending t m p draw) (ack_pending t n p draw)
   unfolding ack_pending
-  pending_alike mn (Repeat k a) = settled_alike a (repeat_next k a) mn
-  pending_alike {m} {n} mn Idle =
+  pending_alike mn (Some r) = settled_alike r.action (repeat_next r) mn
+  pending_alike {m} {n} mn None =
       subst (λ (p : Point). Alike s u (ack_with m (found_in t (point_of m)) draw) (ack_with n (found_in t p) draw))
       (ap looked_at mn.past) (with_alike mn (found_in t (point_of m)))
 
@@ -190,25 +169,25 @@ module _ {s u : Sender} (e : Same s u) (t : RuleTree) (draw : Draw) where
   unfolding ack_admitted
   admitted_alike (Ok x) (Ok y) =
       subst
-      (λ (p : Pending). Alike s u (ack_pending t (remembered s x y) s.next_change draw) (ack_pending t (remembered u x y) p draw))
+      (λ (p : Option Repeat). Alike s u (ack_pending t (remembered s x y) s.next_change draw) (ack_pending t (remembered u x y) p draw))
       (ap (λ (p : Past). p.next_change_lem) e.past) (pending_alike (remembered_same x y e) s.next_change)
-  admitted_alike (Ok x) (Err k) = refused_alike 1
-  admitted_alike (Err k) y = refused_alike 1
+  admitted_alike (Ok x) (Err r) = refused_alike r
+  admitted_alike (Err r) y = refused_alike r
 
   pub ack_alike : (sent received : Float) → Alike s u (ack_of t s sent received draw) (ack_of t u sent received draw)
   unfolding ack_of
   ack_alike sent received = go (grown_of t)
     where
-      go : (b : Bool) → Alike s u (cond b (ack_in t s sent received draw) (Refused 10)) (cond b (ack_in t u sent received draw) (Refused 10))
+      go : (b : Bool) → Alike s u (cond b (ack_in t s sent received draw) (Err NotGrown)) (cond b (ack_in t u sent received draw) (Err NotGrown))
       go true = admitted_alike (admit_of sent) (admit_of received)
-      go false = refused_alike 10
+      go false = refused_alike NotGrown
 
 -- the taken acks alone leave the same past
 ack_run : (s u : Sender) (c : SenderCall RuleTree) (cs : List (SenderCall RuleTree)) → ((x y : Sender) → Same x y → Same (run x cs) (run y (taken_acks x cs))) → Same s u
-    → (r : Reply) → Same (left_by s r) (after u c) → Same (run (left_by s r) cs) (run u (if_taken r c (taken_acks (left_by s r) cs)))
+    → (r : Result Held Refusal) → Same (left_by s r) (after u c) → Same (run (left_by s r) cs) (run u (if_taken r c (taken_acks (left_by s r) cs)))
 unfolding run if_taken
-ack_run s u c cs rest e (Taken h) k = rest h.sender (after u c) k
-ack_run s u c cs rest e (Refused n) k = rest s u e
+ack_run s u c cs rest e (Ok h) k = rest h.sender (after u c) k
+ack_run s u c cs rest e (Err r) k = rest s u e
 
 run_same : (s u : Sender) (cs : List (SenderCall RuleTree)) → Same s u → Same (run s cs) (run u (taken_acks s cs))
 unfolding run taken_acks
@@ -229,7 +208,7 @@ point_history s cs sent received = ap (λ (p : Past). point_from p sent received
 pub pending_history : (s : Sender) (cs : List (SenderCall RuleTree)) → (run s cs).next_change ≡ (run s (taken_acks s cs)).next_change
 pending_history s cs = ap (λ (p : Past). p.next_change_lem) (history s cs)
 
--- and a later ack has the same number
-pub number_history : (s : Sender) (cs : List (SenderCall RuleTree)) (t : RuleTree) (sent received : Float) (draw : Draw)
-    → number_of (ack_of t (run s cs) sent received draw) ≡ number_of (ack_of t (run s (taken_acks s cs)) sent received draw)
-number_history s cs t sent received draw = (ack_alike (run_same s s cs (record { past = refl; mode = refl })) t draw sent received).number
+-- and a later ack is refused for the same, or taken as well
+pub number_history : (s : Sender) (cs : List (SenderCall RuleTree)) (t : RuleTree) (sent received : Float) (draw : Option ℕ)
+    → result_err (ack_of t (run s cs) sent received draw) ≡ result_err (ack_of t (run s (taken_acks s cs)) sent received draw)
+number_history s cs t sent received draw = (ack_alike (run_same s s cs (record { past = refl; mode = refl })) t draw sent received).refusal

@@ -1,10 +1,8 @@
-pub mod Ways
 pub mod Averages
 pub mod Verdict
 pub mod History
 pub mod Repeats
-pub mod Asking
 pub mod AckNumbers
+pub mod AckEvents
 pub mod Bursts
-pub mod BurstWays
 pub mod BurstLaws

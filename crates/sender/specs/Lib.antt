@@ -2,5 +2,4 @@ pub mod Memory
 pub mod Acks
 pub mod SenderCall
 pub mod Sender
-pub mod Asks
 pub mod Burst

@@ -1,11 +1,10 @@
 -- A call on a sender: an ack over a tree, or over what stands for one, a send or a tick.
-use Rattle.std.specs.Prelude.{Float}
-use Rattle.sender.specs.declared.Draw.{Draw}
+use Rattle.std.specs.Prelude.{ℕ, Float, Option}
 use Rattle.sender.specs.declared.Event.{Event}
 use Rattle.sender.specs.declared.Event.TheVariants.{Ack, Send, Tick}
 
 pub data SenderCall (T : Type 0) : Type 0 where
-  ack : T → Float → Float → Draw → SenderCall T
+  ack : T → Float → Float → Option ℕ → SenderCall T
   send : Float → SenderCall T
   tick : SenderCall T
 
@@ -17,6 +16,6 @@ over tree tick = tick
 
 -- an event as a call, over a tree
 unfoldable pub on : {T : Type 0} → T → Event → SenderCall T
-on t (Ack sent received draw) = ack t sent received draw
+on t (Ack x) = ack t x.sent x.received x.draw
 on t (Send at) = send at
 on t Tick = tick

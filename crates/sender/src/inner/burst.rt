@@ -1,64 +1,48 @@
-// A burst of acks, over a tree that was tested.
-ghost use Rattle.std.specs.Prelude.{◌≡◌, true, ◌≤◌, ◌++◌, length, drop};
-ghost use Rattle.rule_tree.specs.Grown.{grown_of};
-ghost use Rattle.sender.specs.Burst.{room_for, flag_of, acks_in, course_of, ran_by, Room};
+// A burst of acks, over a tree that passed the test for 10. Windows and flags are lists apart, since hosts lend them so.
+ghost use Rattle.std.specs.Prelude.{◌≡◌, ◌≤◌, ◌++◌, length, drop};
+ghost use Rattle.sender.specs.Burst.{room_for, course_of, ran_by};
 
-use crate::inner::acks;
-use crate::{Burst, Ran, Reply, Sender};
-use remy::cube::Cube;
-use rule_tree::RuleTree;
-use rule_tree::inner::links;
+use crate::{Ack, Ran, Sender};
+use rule_tree::inner::rules::Rules;
 
 // At most 256 acks, and a place in each list for each.
+#[tactic(auto, unfolding(crate::specs::Burst::room_for))]
 pub fn fits(n: usize, windows: usize, clipped: usize) -> bool
     ensures { result ≡ room_for n windows clipped }
 {
     n <= 256 && n <= windows && n <= clipped
 }
 
-fn flag_of(clipped: bool) -> u8
-    ensures { result ≡ flag_of clipped }
+pub fn run(
+    rules: &Rules<'_>,
+    s: Sender,
+    acks: &[Ack],
+    windows: &mut [u32],
+    clipped: &mut [u8],
+) -> Ran
+    requires { (length acks.now ≤ length windows.old) × (length acks.now ≤ length clipped.old) }
+    ensures { let c = course_of rules.now.grown.tree.now s acks.now in (result ≡ ran_by c) × (windows.new ≡ c.windows ++ drop result.taken windows.old) × (clipped.new ≡ c.flags ++ drop result.taken clipped.old) }
 {
-    if clipped { 1 } else { 0 }
-}
-
-// The links are gathered once, and each ack reads one node.
-pub fn run(tree: RuleTree, s: Sender, b: Burst, windows: &mut [u32], clipped: &mut [u8]) -> Ran
-    requires { (grown_of tree ≡ true) × Room b (length windows.old) (length clipped.old) }
-    ensures { (result ≡ ran_by (course_of tree s (acks_in b))) × (windows.new ≡ (course_of tree s (acks_in b)).windows ++ drop result.taken windows.old) × (clipped.new ≡ (course_of tree s (acks_in b)).flags ++ drop result.taken clipped.old) }
-{
-    let ends = tree.ends;
-    let root = Cube::root(ends);
-    let children = links::children_of(tree);
-    let n = b.count;
-    let mut left = s;
-    let mut i: usize = 0;
-    while i < n {
-        let x = b.acks[i];
-        let draw = x.draw;
-        let asked = acks::ask(&children, root, left, x.sent, x.received);
-        let node = acks::node_of(asked) as usize;
-        let y = tree.nodes[node];
-        let a = y.action();
-        match acks::answer(asked, a, draw) {
-            Reply::Taken(h) => {
-                windows[i] = h.window;
-                clipped[i] = flag_of(h.clipped);
-                left = h.sender;
+    let mut sender = s;
+    for (i, x) in acks.iter().enumerate() {
+        match sender.ack_by(rules, *x) {
+            Ok(held) => {
+                windows[i] = held.window;
+                clipped[i] = u8::from(held.clipped);
+                sender = held.sender;
             }
-            Reply::Refused(k) => {
+            Err(refused) => {
                 return Ran {
-                    sender: left,
+                    sender,
                     taken: i,
-                    stopped: k,
+                    stopped: Some(refused),
                 };
             }
         }
-        i += 1;
     }
     Ran {
-        sender: left,
-        taken: i,
-        stopped: 0,
+        sender,
+        taken: acks.len(),
+        stopped: None,
     }
 }
