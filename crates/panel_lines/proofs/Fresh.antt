@@ -8,6 +8,7 @@ use borrow.Author.Tests.{le-leb}
 use lib.Dec.{ltb}
 use lib.ListN.{length, drop, replicate, get_or-replicate}
 use lib.Seq.{get_or-set_other}
+use Rattle.std.specs.Prelude.{Ok}
 use Rattle.remy.specs.declared.action.Action.{Action}
 use Rattle.remy.specs.declared.point.Point.{Point}
 use Rattle.rule_tree.specs.declared.Node.{Node}
@@ -30,7 +31,6 @@ use Rattle.record.specs.Write.{record_of}
 use Rattle.record.proofs.Stands.{SettingsFits}
 use Rattle.record.proofs.RoundTrip.{TrainerFits}
 use Rattle.record.proofs.BytesFit.{zero-fits, plain_fits}
-use Rattle.record.specs.declared.Saved.TheVariants.{Size}
 use Rattle.panel_lines.specs.Shares.{share_among}
 use Rattle.panel_lines.specs.Panel.{digits, leaf_lines, lines_of, counts_in, panel_of, out_after}
 use Rattle.panel_lines.specs.Parts.{lines_after, counts_shown, counts_after}
@@ -105,23 +105,23 @@ fresh_lines : (e : Point) (a : Action) → lines_of (fresh_tree e a) (5 ∷ []) 
 unfolding lines_of leaf_lines digits share_among total count_below example
 fresh_lines e a = refl
 
-fresh_shown : (e : Point) (a : Action) (out : List ℕ) → 25 ≤ length out → counts_shown (fresh_tree e a) (bytes_of 8 5) out ≡ Size 25
+fresh_shown : (e : Point) (a : Action) (out : List ℕ) → 25 ≤ length out → counts_shown (fresh_tree e a) (bytes_of 8 5) out ≡ Ok 25
 unfolding counts_shown bytes_of example
 fresh_shown e a out l = rw (fresh_counts, fresh_holds e a, fresh_lines e a, le-leb 25 (length out) l)
 
-fresh_after : (e : Point) (a : Action) (out : List ℕ) → counts_after (fresh_tree e a) (bytes_of 8 5) out (Size 25) ≡ example ++ drop 25 out
+fresh_after : (e : Point) (a : Action) (out : List ℕ) → counts_after (fresh_tree e a) (bytes_of 8 5) out (Ok 25) ≡ example ++ drop 25 out
 unfolding lines_after
 fresh_after e a out = rw (fresh_counts, fresh_lines e a)
 
 -- "Fresh record and count 5: `leaves 1 splits 0`, then `0 1000`"
 pub fresh_panel : (s : Settings) → settings_hold s ≡ true → SettingsFits s → (out : List ℕ) → 25 ≤ length out
-    → (panel_of (record_of (started s) ++ bytes_of 8 5) out ≡ Size 25)
-    × (out_after (record_of (started s) ++ bytes_of 8 5) out (Size 25) ≡ example ++ drop 25 out)
+    → (panel_of (record_of (started s) ++ bytes_of 8 5) out ≡ Ok 25)
+    × (out_after (record_of (started s) ++ bytes_of 8 5) out (Ok 25) ≡ example ++ drop 25 out)
 fresh_panel s h f out l =
     let fits = started_fits s f in
     let held = (start_held s h).accepted in (
       saved_shown (started s) fits held (bytes_of 8 5) out
           ∙ ap (λ (t : RuleTree). counts_shown t (bytes_of 8 5) out) (started_tree s f) ∙ fresh_shown s.ends s.default_action out l,
-      saved_after (started s) fits held (bytes_of 8 5) out (Size 25)
-          ∙ ap (λ (t : RuleTree). counts_after t (bytes_of 8 5) out (Size 25)) (started_tree s f) ∙ fresh_after s.ends s.default_action out,
+      saved_after (started s) fits held (bytes_of 8 5) out (Ok 25)
+          ∙ ap (λ (t : RuleTree). counts_after t (bytes_of 8 5) out (Ok 25)) (started_tree s f) ∙ fresh_after s.ends s.default_action out,
     )

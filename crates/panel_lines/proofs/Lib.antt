@@ -1,7 +1,6 @@
 pub mod Decimal
 pub mod Texts
 pub mod Filling
-pub mod Reading
 pub mod Sums
 pub mod Cuts
 pub mod Ranks

@@ -1,25 +1,27 @@
 -- The panel test by test as the code goes: the start, what the loader answers, then the counts. Assumes nothing.
 use mathlib.Core.Path.{◌≡◌, refl, sym, ap, ◌∙◌}
-use mathlib.Core.Bool.{Bool, true, false, false≢true, ◌&&◌, cond}
-use mathlib.Core.List.{List}
+use mathlib.Core.Bool.{Bool, true, false, ◌&&◌, cond}
+use mathlib.Core.List.{List, [], ◌∷◌}
 use Prim.Native.Nat.{ℕ, ◌+◌, ◌-◌, ◌*◌, ◌≤◌}
 use native.Mathlib.Omega.{arith}
 use borrow.Author.Tests.{leb-true, le-leb, eq-eqb}
 use lib.Dec.{eqb, leb}
 use lib.ListN.{length, take}
 use lib.Seq.{take-take, length-take-le}
+use Rattle.std.specs.Prelude.{Result, Ok, Err}
+use Rattle.refusal.specs.declared.Refusal.{Refusal}
+use Rattle.refusal.specs.declared.Refusal.TheVariants.{BadCounts, BadField, BadLength, UnknownVersion}
+use Rattle.refusal.specs.Guards.{check, checked, and_then}
 use Rattle.rule_tree.specs.declared.RuleTree.{RuleTree}
 use Rattle.rule_tree.specs.Nodes.{node_count}
 use Rattle.rule_tree.specs.Counts.{counts_hold}
 use Rattle.rule_tree.proofs.Lists.{and_left, and_right, and_both}
-use Rattle.trainer.specs.declared.Answered.{Answered}
-use Rattle.trainer.specs.Phases.{refuse, taken}
-use Rattle.trainer.specs.Calls.{blank_trainer}
+use Rattle.trainer.specs.declared.Trainer.{Trainer}
 use Rattle.wire.specs.Bytes.{number_at, value_from}
-use Rattle.record.specs.declared.Saved.{Saved}
-use Rattle.record.specs.declared.Saved.TheVariants.{Refused}
 use Rattle.record.specs.Read.{read_of}
 use Rattle.record.specs.Calls.{length_holds, version_holds, body_holds, load_of}
+use Rattle.record.proofs.Loading.{loaded_then}
+use Rattle.record.proofs.BytesFit.{loaded_is}
 use Rattle.panel_lines.specs.Panel.{lines_of, record_part, counts_part, counts_in, start_holds, tree_in, panel_of}
 use Rattle.panel_lines.specs.Parts.{fitted, counts_shown, record_shown}
 
@@ -69,66 +71,44 @@ module _ (m : ℕ) (l : 16388 ≤ m) (input : List ℕ) where
   first_record h = ap (λ (k : ℕ). take (4 + k) (take m input)) first_number ∙ take-take (4 + number_at input 0 4) m input (omega arith)
 
 -- ---- the loader's answer
-abbrev given : List ℕ → Bool → Bool → Bool → Answered
-given bytes x y z = cond x (cond y (cond z (taken (read_of bytes)) (refuse 8 blank_trainer)) (refuse 7 blank_trainer)) (refuse 6 blank_trainer)
-
-pub loaded : (bytes : List ℕ) → (load_of bytes).refused ≡ 0 → load_of bytes ≡ taken (read_of bytes)
-unfolding load_of
-loaded bytes h = by (length_holds bytes) (version_holds bytes) (body_holds bytes) h
-  where
-    by : (x y z : Bool) → (given bytes x y z).refused ≡ 0 → given bytes x y z ≡ taken (read_of bytes)
-    by true true true e = refl
-    by true true false e = absurd (omega arith)
-    by true false z e = absurd (omega arith)
-    by false y z e = absurd (omega arith)
-
-record_guarded :
-    (bytes rest out : List ℕ) → length_holds bytes ≡ true
-    → record_shown (load_of bytes) rest out
-    ≡ cond (version_holds bytes) (cond (body_holds bytes) (counts_shown (read_of bytes).tree rest out) (Refused 8)) (Refused 7)
-unfolding load_of record_shown
-record_guarded bytes rest out h = by (length_holds bytes) (version_holds bytes) (body_holds bytes) h
-  where
-    by :
-        (x y z : Bool) → x ≡ true
-        → record_shown (given bytes x y z) rest out ≡ cond y (cond z (counts_shown (read_of bytes).tree rest out) (Refused 8)) (Refused 7)
-    by true true true h = refl
-    by true true false h = refl
-    by true false z h = refl
-    by false y z h = absurd (false≢true h)
+pub loaded : (bytes : List ℕ) (t : Trainer) → load_of bytes ≡ Ok t → load_of bytes ≡ Ok (read_of bytes)
+loaded bytes t e = e ∙ ap (λ (u : Trainer). Ok u) (sym (loaded_is bytes t e))
 
 -- ---- the counts' two tests are one
-counts_guarded :
+counts_checked :
     (t : RuleTree) (bytes out : List ℕ)
     → counts_shown t bytes out
-    ≡ cond (eqb (length bytes) (8 * node_count t.splits) && counts_hold t (counts_in bytes (node_count t.splits)))
-    (fitted (lines_of t (counts_in bytes (node_count t.splits))) out) (Refused 4)
+    ≡ checked (check (eqb (length bytes) (8 * node_count t.splits) && counts_hold t (counts_in bytes (node_count t.splits))) BadCounts ∷ [])
+    (fitted (lines_of t (counts_in bytes (node_count t.splits))) out)
 unfolding counts_shown
-counts_guarded t bytes out =
+counts_checked t bytes out =
     by (eqb (length bytes) (8 * node_count t.splits)) (counts_hold t (counts_in bytes (node_count t.splits)))
     (fitted (lines_of t (counts_in bytes (node_count t.splits))) out)
   where
-    by : (x y : Bool) (r : Saved) → cond x (cond y r (Refused 4)) (Refused 4) ≡ cond (x && y) r (Refused 4)
+    by : (x y : Bool) (r : Result ℕ Refusal) → cond x (cond y r (Err BadCounts)) (Err BadCounts) ≡ cond (x && y) r (Err BadCounts)
     by true y r = refl
     by false y r = refl
 
 pub panel_nested :
     (input out : List ℕ)
-    → panel_of input out ≡ cond (start_holds input) (record_shown (load_of (record_part input)) (counts_part input) out) (Refused 6)
+    → panel_of input out ≡ checked (check (start_holds input) BadLength ∷ []) (record_shown (load_of (record_part input)) (counts_part input) out)
 unfolding panel_of
 panel_nested input out = by (start_holds input) refl
   where
-    counted : Saved
-    counted =
-        cond (eqb (length (counts_part input)) (8 * node_count (tree_in input).splits) && counts_hold (tree_in input) (counts_in (counts_part input) (node_count (tree_in input).splits)))
-        (fitted (lines_of (tree_in input) (counts_in (counts_part input) (node_count (tree_in input).splits))) out) (Refused 4)
+    call : Trainer → Result ℕ Refusal
+    call t = counts_shown t.tree (counts_part input) out
 
-    by :
-        (b : Bool) → start_holds input ≡ b
-        → cond b (cond (version_holds (record_part input)) (cond (body_holds (record_part input)) counted (Refused 8)) (Refused 7)) (Refused 6)
-        ≡ cond b (record_shown (load_of (record_part input)) (counts_part input) out) (Refused 6)
+    counted : Result ℕ Refusal
+    counted =
+        checked (check (eqb (length (counts_part input)) (8 * node_count (tree_in input).splits) && counts_hold (tree_in input) (counts_in (counts_part input) (node_count (tree_in input).splits))) BadCounts ∷ [])
+        (fitted (lines_of (tree_in input) (counts_in (counts_part input) (node_count (tree_in input).splits))) out)
+
+    rest : Result ℕ Refusal → Result ℕ Refusal
+    rest r = checked (check (version_holds (record_part input)) UnknownVersion ∷ check (body_holds (record_part input)) BadField ∷ []) r
+
+    by : (b : Bool) → start_holds input ≡ b → cond b (rest counted) (Err BadLength) ≡ cond b (and_then (load_of (record_part input)) call) (Err BadLength)
     by true h =
-        ap (λ (r : Saved). cond (version_holds (record_part input)) (cond (body_holds (record_part input)) r (Refused 8)) (Refused 7))
-        (sym (counts_guarded (tree_in input) (counts_part input) out))
-        ∙ sym (record_guarded (record_part input) (counts_part input) out (part_held input h))
+        ap rest (sym (counts_checked (tree_in input) (counts_part input) out))
+        ∙ ap (λ (b : Bool). cond b (rest (call (read_of (record_part input)))) (Err BadLength)) (sym (part_held input h))
+        ∙ sym (loaded_then (record_part input) call)
     by false h = refl

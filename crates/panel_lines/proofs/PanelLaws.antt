@@ -2,46 +2,48 @@
 -- 8,192 bytes hold any lines. Assumes nothing.
 use mathlib.Core.Path.{◌≡◌, refl, sym, ap, ◌∙◌}
 use mathlib.Core.Bool.{Bool, true, false, ◌&&◌, cond}
-use mathlib.Core.List.{List}
+use mathlib.Core.List.{List, [], ◌∷◌}
+use mathlib.Core.Logic.{⊎_elim, ◌⊎◌}
 use Prim.Native.Nat.{ℕ, ◌+◌, ◌*◌, ◌≤◌}
 use native.Mathlib.Omega.{arith}
-use borrow.Author.Tests.{le-leb, leb-true, leb-false, eqb-true, ne_eqb}
+use borrow.Author.Tests.{le-leb, leb-true, leb-false, ne_eqb}
 use lib.Dec.{eqb, leb}
 use lib.ListN.{length, take, length-drop}
 use lib.Seq.{take_all, length-take-le}
+use Rattle.std.specs.Prelude.{Result, Ok, Err}
+use Rattle.refusal.specs.declared.Refusal.{Refusal}
+use Rattle.refusal.specs.declared.Refusal.TheVariants.{BadCounts, BadField, BadLength, ShortBuffer, UnknownVersion}
+use Rattle.refusal.specs.Guards.{check, checked, and_then}
 use Rattle.rule_tree.specs.declared.RuleTree.{RuleTree}
 use Rattle.rule_tree.specs.Lists.{count_below}
 use Rattle.rule_tree.specs.Nodes.{is_leaf_of, node_count}
 use Rattle.rule_tree.proofs.Lists.{length_tabulate}
 use Rattle.rule_tree.specs.Counts.{counts_hold}
-use Rattle.trainer.specs.declared.Answered.{Answered}
-use Rattle.trainer.specs.Phases.{refuse, taken}
-use Rattle.trainer.specs.Calls.{blank_trainer}
+use Rattle.trainer.specs.declared.Trainer.{Trainer}
 use Rattle.wire.specs.Bytes.{number_at}
-use Rattle.record.specs.Read.{read_of}
-use Rattle.record.specs.Calls.{length_holds, version_holds, body_holds, load_of}
-use Rattle.record.specs.declared.Saved.{Saved}
-use Rattle.record.specs.declared.Saved.TheVariants.{Size, Refused}
+use Rattle.record.specs.Calls.{version_holds, body_holds, load_of}
+use Rattle.record.proofs.Size.{leaves_count}
+use Rattle.record.proofs.Loading.{accepted_grown, load_again, load_refused}
+use Rattle.record.proofs.BytesFit.{loaded_is}
 use Rattle.panel_lines.specs.Panel.{lines_of, record_part, counts_part, counts_in, tree_in, counts_of, text_of, start_holds, panel_of, out_after}
 use Rattle.panel_lines.specs.Parts.{fitted, counts_shown, record_shown}
-use Rattle.record.proofs.Size.{leaves_count}
-use Rattle.record.proofs.Loading.{accepted_grown, load_again}
 use Rattle.panel_lines.proofs.Room.{lines_fit}
 use Rattle.panel_lines.proofs.Ways.{load_splits}
-use Rattle.panel_lines.proofs.Nested.{long_start, first_number, first_record, loaded, panel_nested}
+use Rattle.panel_lines.proofs.Nested.{long_start, first_number, first_record, panel_nested}
 
 -- ---- "leaves L": as many as are listed
-pub leaves_told : (bytes : List ℕ) → (load_of bytes).refused ≡ 0
-    → count_below (node_count (load_of bytes).trainer.tree.splits) (is_leaf_of (load_of bytes).trainer.tree.nodes) ≡ 1 + 7 * (load_of bytes).trainer.tree.splits
-leaves_told bytes h =
-    let t = (load_of bytes).trainer in
-    let a = (load_again bytes t (loaded bytes h ∙ ap (λ (r : Answered). taken r.trainer) (sym (loaded bytes h)))).accepted in
-    leaves_count t.tree (accepted_grown t a) (ap (λ (r : Answered). length r.trainer.tree.nodes) (loaded bytes h) ∙ length_tabulate 513 _)
+pub leaves_told : (bytes : List ℕ) (t : Trainer) → load_of bytes ≡ Ok t → count_below (node_count t.tree.splits) (is_leaf_of t.tree.nodes) ≡ 1 + 7 * t.tree.splits
+leaves_told bytes t e =
+    leaves_count t.tree (accepted_grown t (load_again bytes t e).accepted)
+    (ap (λ (u : Trainer). length u.tree.nodes) (sym (loaded_is bytes t e)) ∙ length_tabulate 513 _)
 
 -- ---- an input of more bytes than any that is taken
 -- what is answered to it hangs on the record alone
-long_answer : ℕ → Answered → Saved
-long_answer n a = cond (leb n 16384) (cond (eqb a.refused 0) (Refused 4) (Refused a.refused)) (Refused 6)
+too_many : Result Trainer Refusal → Result ℕ Refusal
+too_many loaded = and_then loaded (λ t. Err BadCounts)
+
+long_answer : ℕ → Result Trainer Refusal → Result ℕ Refusal
+long_answer n loaded = checked (check (leb n 16384) BadLength ∷ []) (too_many loaded)
 
 module _ (input out : List ℕ) (l : 20493 ≤ length input) where
   n : ℕ
@@ -51,39 +53,33 @@ module _ (input out : List ℕ) (l : 20493 ≤ length input) where
   unfolding n
   started = long_start input (omega arith)
 
-  long_counts : (t : RuleTree) → n ≤ 16384 → t.splits ≤ 64 → counts_shown t (counts_part input) out ≡ Refused 4
+  long_counts : (t : RuleTree) → n ≤ 16384 → t.splits ≤ 64 → counts_shown t (counts_part input) out ≡ Err BadCounts
   unfolding counts_shown n
   long_counts t m f =
       rw (ne_eqb (length (counts_part input)) (8 * node_count t.splits) (λ e. absurd (omega (arith, length-drop (4 + n) input, e))))
 
-  long_record : n ≤ 16384 → (a : Answered) → a ≡ load_of (record_part input)
-      → record_shown a (counts_part input) out ≡ cond (eqb a.refused 0) (Refused 4) (Refused a.refused)
-  unfolding record_shown
-  long_record m a e = by (eqb a.refused 0) refl
-    where
-      by : (b : Bool) → eqb a.refused 0 ≡ b
-          → cond b (counts_shown a.trainer.tree (counts_part input) out) (Refused a.refused) ≡ cond b (Refused 4) (Refused a.refused)
-      by true z = long_counts a.trainer.tree m (load_splits (record_part input) a e (eqb-true a.refused 0 z))
-      by false z = refl
+  long_record : n ≤ 16384 → (r : Result Trainer Refusal) → load_of (record_part input) ≡ r → record_shown r (counts_part input) out ≡ too_many r
+  unfolding too_many
+  long_record m (Ok t) e = long_counts t.tree m (load_splits (record_part input) t e)
+  long_record m (Err r) e = refl
 
   long_panel : panel_of input out ≡ long_answer n (load_of (record_part input))
   unfolding long_answer
   long_panel = panel_nested input out ∙ rw started (by (leb n 16384) refl)
     where
       by : (b : Bool) → leb n 16384 ≡ b
-          → cond b (record_shown (load_of (record_part input)) (counts_part input) out) (Refused 6)
-          ≡ cond b (cond (eqb (load_of (record_part input)).refused 0) (Refused 4) (Refused (load_of (record_part input)).refused)) (Refused 6)
+          → cond b (record_shown (load_of (record_part input)) (counts_part input) out) (Err BadLength) ≡ cond b (too_many (load_of (record_part input))) (Err BadLength)
       by true e = long_record (leb-true n 16384 e) (load_of (record_part input)) refl
       by false e = refl
 
-long_after : (input out : List ℕ) (n : ℕ) (a : Answered) → out_after input out (long_answer n a) ≡ out
-unfolding out_after long_answer
-long_after input out n a = by (leb n 16384) (eqb a.refused 0)
+long_after : (input out : List ℕ) (n : ℕ) (r : Result Trainer Refusal) → out_after input out (long_answer n r) ≡ out
+unfolding out_after long_answer too_many
+long_after input out n r = by (leb n 16384) r
   where
-    by : (b d : Bool) → out_after input out (cond b (cond d (Refused 4) (Refused a.refused)) (Refused 6)) ≡ out
-    by true true = refl
-    by true false = refl
-    by false d = refl
+    by : (b : Bool) (r : Result Trainer Refusal) → out_after input out (cond b (too_many r) (Err BadLength)) ≡ out
+    by true (Ok t) = refl
+    by true (Err e) = refl
+    by false r = refl
 
 -- ---- the read buffer's size changes no answer
 module _ (input out : List ℕ) where
@@ -99,12 +95,9 @@ module _ (input out : List ℕ) where
     unfolding long_answer first
     same_answer = ap (λ (k : ℕ). long_answer k (load_of (record_part first))) (first_number 20493 (omega arith) input) ∙ by (leb (number_at input 0 4) 16384) refl
       where
-        shown : Answered → Saved
-        shown a = cond (eqb a.refused 0) (Refused 4) (Refused a.refused)
-
         by : (b : Bool) → leb (number_at input 0 4) 16384 ≡ b
-            → cond b (shown (load_of (record_part first))) (Refused 6) ≡ cond b (shown (load_of (record_part input))) (Refused 6)
-        by true e = ap (λ (r : List ℕ). shown (load_of r)) (first_record 20493 (omega arith) input (leb-true (number_at input 0 4) 16384 e))
+            → cond b (too_many (load_of (record_part first))) (Err BadLength) ≡ cond b (too_many (load_of (record_part input))) (Err BadLength)
+        by true e = ap (λ (r : List ℕ). too_many (load_of r)) (first_record 20493 (omega arith) input (leb-true (number_at input 0 4) 16384 e))
         by false e = refl
 
     long_same : panel_of first out ≡ panel_of input out
@@ -129,60 +122,38 @@ module _ (input out : List ℕ) where
           (ap (λ (r : List ℕ). panel_of r out) q, ap (λ (r : List ℕ). out_after r out (panel_of r out)) q)
 
 -- ---- a buffer of 8,192 bytes holds any lines
-load_number : (bytes : List ℕ) → ((load_of bytes).refused ≡ 9) → ⊥
-unfolding load_of
-load_number bytes h = by (length_holds bytes) (version_holds bytes) (body_holds bytes) h
-  where
-    by : (x y z : Bool)
-        → (cond x (cond y (cond z (taken (read_of bytes)) (refuse 8 blank_trainer)) (refuse 7 blank_trainer)) (refuse 6 blank_trainer)).refused ≡ 9 → ⊥
-    by true true true e = omega arith
-    by true true false e = omega arith
-    by true false z e = omega arith
-    by false y z e = omega arith
-
-refused_number : (j k : ℕ) → Refused j ≡ Refused k → j ≡ k
-refused_number j k e = cc
-
-never_size : (n k : ℕ) → Size n ≡ Refused k → ⊥
-never_size n k e = let z : ◌≡◌ {A = ℕ} 0 1 = cc in omega arith
-
-fitted_room : (text out : List ℕ) → length text ≤ length out → fitted text out ≡ Size (length text)
+fitted_room : (text out : List ℕ) → length text ≤ length out → fitted text out ≡ Ok (length text)
 fitted_room text out l = rw (le-leb (length text) (length out) l)
 
 module _ (out : List ℕ) (room : 8192 ≤ length out) where
-  counts_never : (t : RuleTree) (bytes : List ℕ) → t.splits ≤ 64 → counts_shown t bytes out ≡ Refused 9 → ⊥
+  counts_never : (t : RuleTree) (bytes : List ℕ) → t.splits ≤ 64 → counts_shown t bytes out ≡ Err ShortBuffer → ⊥
   unfolding counts_shown
   counts_never t bytes l e = by (eqb (length bytes) (8 * node_count t.splits)) (counts_hold t (counts_in bytes (node_count t.splits))) e
     where
       xs : List ℕ
       xs = counts_in bytes (node_count t.splits)
 
-      by : (b d : Bool) → cond b (cond d (fitted (lines_of t xs) out) (Refused 4)) (Refused 4) ≡ Refused 9 → ⊥
-      by true true e = never_size _ 9 (sym (fitted_room (lines_of t xs) out (omega (arith, lines_fit t xs l))) ∙ e)
-      by true false e = let q = refused_number 4 9 e in omega arith
-      by false d e = let q = refused_number 4 9 e in omega arith
+      by : (b d : Bool) → cond b (cond d (fitted (lines_of t xs) out) (Err BadCounts)) (Err BadCounts) ≡ Err ShortBuffer → ⊥
+      by true true e = let f = fitted_room (lines_of t xs) out (omega (arith, lines_fit t xs l)) in cc
+      by true false e = cc
+      by false d e = cc
 
-  record_never : (bytes rest : List ℕ) → record_shown (load_of bytes) rest out ≡ Refused 9 → ⊥
-  unfolding record_shown
-  record_never bytes rest e = by (eqb (load_of bytes).refused 0) refl e
-    where
-      by : (b : Bool) → eqb (load_of bytes).refused 0 ≡ b
-          → cond b (counts_shown (load_of bytes).trainer.tree rest out) (Refused (load_of bytes).refused) ≡ Refused 9 → ⊥
-      by true z e = counts_never (load_of bytes).trainer.tree rest (load_splits bytes (load_of bytes) refl (eqb-true (load_of bytes).refused 0 z)) e
-      by false z e = load_number bytes (refused_number (load_of bytes).refused 9 e)
+  record_never : (bytes rest : List ℕ) (r : Result Trainer Refusal) → load_of bytes ≡ r → record_shown r rest out ≡ Err ShortBuffer → ⊥
+  record_never bytes rest (Ok t) q e = counts_never t.tree rest (load_splits bytes t q) e
+  record_never bytes rest (Err r) q e =
+      ⊎_elim (λ (z : r ≡ BadLength). cc)
+      (λ (z : (r ≡ UnknownVersion) ⊎ (r ≡ BadField)). ⊎_elim (λ (y : r ≡ UnknownVersion). cc) (λ (y : r ≡ BadField). cc) z)
+      (load_refused bytes r q)
 
-  pub never_short : (input : List ℕ) → panel_of input out ≡ Refused 9 → ⊥
+  pub never_short : (input : List ℕ) → panel_of input out ≡ Err ShortBuffer → ⊥
   never_short input e = by (start_holds input) (sym (panel_nested input out) ∙ e)
     where
-      by : (b : Bool) → cond b (record_shown (load_of (record_part input)) (counts_part input) out) (Refused 6) ≡ Refused 9 → ⊥
-      by true e = record_never (record_part input) (counts_part input) e
-      by false e = let q = refused_number 6 9 e in omega arith
+      by : (b : Bool) → cond b (record_shown (load_of (record_part input)) (counts_part input) out) (Err BadLength) ≡ Err ShortBuffer → ⊥
+      by true e = record_never (record_part input) (counts_part input) (load_of (record_part input)) refl e
+      by false e = cc
 
 -- ---- a size is that of bytes in the lent buffer
-size_number : (m n : ℕ) → Size m ≡ Size n → m ≡ n
-size_number m n e = cc
-
-pub size_inside : (input out : List ℕ) (n : ℕ) → panel_of input out ≡ Size n → n ≤ length out
+pub size_inside : (input out : List ℕ) (n : ℕ) → panel_of input out ≡ Ok n → n ≤ length out
 unfolding panel_of
 size_inside input out n e =
     by (start_holds input) (version_holds (record_part input)) (body_holds (record_part input))
@@ -190,11 +161,11 @@ size_inside input out n e =
     (leb (length (text_of input)) (length out)) refl e
   where
     by : (x y z c f : Bool) → leb (length (text_of input)) (length out) ≡ f
-        → cond x (cond y (cond z (cond c (cond f (Size (length (text_of input))) (Refused 9)) (Refused 4)) (Refused 8)) (Refused 7)) (Refused 6) ≡ Size n
+        → checked (check x BadLength ∷ check y UnknownVersion ∷ check z BadField ∷ check c BadCounts ∷ check f ShortBuffer ∷ []) (Ok (length (text_of input))) ≡ Ok n
         → n ≤ length out
-    by true true true true true l e = omega (arith, leb-true (length (text_of input)) (length out) l, size_number (length (text_of input)) n e)
-    by true true true true false l e = absurd (never_size n 9 (sym e))
-    by true true true false f l e = absurd (never_size n 4 (sym e))
-    by true true false c f l e = absurd (never_size n 8 (sym e))
-    by true false z c f l e = absurd (never_size n 7 (sym e))
-    by false y z c f l e = absurd (never_size n 6 (sym e))
+    by true true true true true l e = let q : length (text_of input) ≡ n = cc in omega (arith, leb-true (length (text_of input)) (length out) l)
+    by true true true true false l e = absurd (cc)
+    by true true true false f l e = absurd (cc)
+    by true true false c f l e = absurd (cc)
+    by true false z c f l e = absurd (cc)
+    by false y z c f l e = absurd (cc)

@@ -9,10 +9,9 @@ use native.Mathlib.Omega.{arith}
 use lib.Dec.{eqb, ltb}
 use lib.ListN.{length, get_or, take, replicate}
 use Rattle.rule_tree.specs.Lists.{count_below, tabulate, total}
-use Rattle.rule_tree.proofs.Lists.{count_below_yes, count_below_no, length_tabulate, get_d_tabulate}
+use Rattle.rule_tree.proofs.Lists.{count_below_yes, count_below_no, length_tabulate, get_d_tabulate, count_below_same}
 use Rattle.panel_lines.specs.Shares.{sum_below, cut_at, remainder_at, missing_in, ahead, every_entry, rank_in, rank_of, share_in, Totalled, Some, Entry}
 use Rattle.panel_lines.proofs.Filling.{filled_zeros}
-use Rattle.panel_lines.proofs.Sums.{count_same}
 use Rattle.panel_lines.proofs.Cuts.{count_below_lem, missing_is, cuts_fit_part}
 use Rattle.panel_lines.proofs.Shares.{more_yes, more_no, share_is, share_of_nothing}
 
@@ -82,7 +81,7 @@ rank_is xs rs i l e =
     let n = length xs in
     let read : (j : ℕ) → j < n → get_or rs j 0 ≡ remainder_at xs j = λ j m. ap (λ (r : List ℕ). get_or r j 0) e ∙ get_d_tabulate n j (remainder_at xs) 0 m in
     ap (λ (k : ℕ). count_below k (λ j. ahead (λ m. get_or rs m 0) i j)) (ap length e ∙ length_tabulate n (remainder_at xs))
-    ∙ count_same n (λ j. ahead (λ k. get_or rs k 0) i j) (λ j. ahead (remainder_at xs) i j)
+    ∙ count_below_same n (λ j. ahead (λ k. get_or rs k 0) i j) (λ j. ahead (remainder_at xs) i j)
     (λ j m. ahead_same (λ k. get_or rs k 0) (remainder_at xs) i j (read i l) (read j m))
 
 -- ---- remainders_of

@@ -11,8 +11,9 @@ use lib.Dec.{ltb}
 use lib.ListN.{length, get_or}
 use Rattle.rule_tree.specs.Lists.{count_below, total}
 use Rattle.rule_tree.proofs.Owners.{below_or_not}
+use Rattle.rule_tree.proofs.Lists.{count_below_same}
 use Rattle.panel_lines.specs.Shares.{sum_below, cut_at, remainder_at, missing_among, missing_in, ahead, rank_among, rank_in, every_entry, share_among, share_in}
-use Rattle.panel_lines.proofs.Sums.{sum_plus, sum_same, count_sum, count_same, count_le}
+use Rattle.panel_lines.proofs.Sums.{sum_plus, sum_same, count_sum, count_le}
 use Rattle.panel_lines.proofs.Cuts.{count_below_lem, parted, cuts_fit, missing_is, missing_few, missing_below}
 use Rattle.panel_lines.proofs.Ranks.{ahead_larger, ahead_lower, ahead_smaller, rank_before, ranks_below}
 
@@ -135,7 +136,7 @@ module _ (xs : List ℕ) (some : 0 < total xs) where
         by i false e = sym (none_cut i (parents i e))
 
     same_rank : (i : ℕ) → 0 < remainder_at xs i → rank_among leaf xs i ≡ rank_in xs i
-    same_rank i h = count_same (length xs) (λ j. leaf j && ahead (remainder_at xs) i j) (λ j. ahead (remainder_at xs) i j) (λ j l. by j (leaf j) refl)
+    same_rank i h = count_below_same (length xs) (λ j. leaf j && ahead (remainder_at xs) i j) (λ j. ahead (remainder_at xs) i j) (λ j l. by j (leaf j) refl)
       where
         by : (j : ℕ) (b : Bool) → leaf j ≡ b → leaf j && ahead (remainder_at xs) i j ≡ ahead (remainder_at xs) i j
         by j true e = rw e

@@ -7,8 +7,10 @@ use native.Mathlib.Nat.{eq-or-lt_of_le, add-mul}
 use native.Mathlib.Omega.{arith}
 use borrow.Author.Tests.{lt-ltb, le-ltb, eq-eqb, ne_eqb, eqb-true}
 use lib.Dec.{eqb, ltb}
+use Rattle.std.proofs.lemmas.Bool.{false_from_ne_true}
 use Rattle.rule_tree.specs.Lists.{count_below}
 use Rattle.rule_tree.proofs.Owners.{same_or_not, below_or_not}
+use Rattle.rule_tree.proofs.Lists.{count_below_none}
 use Rattle.panel_lines.specs.Shares.{sum_below}
 
 -- ---- sums
@@ -45,22 +47,10 @@ unfolding sum_below
 sum_member n i f l = let h = sum_grows n (suc i) f (omega arith) in omega arith
 
 -- ---- counts
-true_or_false : (b : Bool) → (b ≡ true → ⊥) → b ≡ false
-true_or_false true h = absurd (h refl)
-true_or_false false h = refl
-
 pub count_sum : (n : ℕ) (f : ℕ → Bool) → count_below n f ≡ sum_below n (λ i. cond (f i) 1 0)
 unfolding count_below sum_below
 count_sum zero f = refl
 count_sum (suc n) f = let h = count_sum n f in omega arith
-
-pub count_same : (n : ℕ) (f g : ℕ → Bool) → ((i : ℕ) → i < n → f i ≡ g i) → count_below n f ≡ count_below n g
-unfolding count_below
-count_same zero f g h = refl
-count_same (suc n) f g h =
-    let a = count_same n f g (λ i l. h i (omega arith)) in
-    let b = ap {B = ℕ} (λ (t : Bool). cond t 1 0) (h n (omega arith)) in
-    omega arith
 
 pub count_le : (n : ℕ) (f g : ℕ → Bool) → ((i : ℕ) → i < n → f i ≡ true → g i ≡ true) → count_below n f ≤ count_below n g
 unfolding count_below
@@ -102,20 +92,12 @@ count_all (suc n) f h =
     let b = ap {B = ℕ} (λ (t : Bool). cond t 1 0) (h n (omega arith)) in
     omega arith
 
-count_none : (n : ℕ) (f : ℕ → Bool) → ((i : ℕ) → i < n → f i ≡ false) → count_below n f ≡ 0
-unfolding count_below
-count_none zero f h = refl
-count_none (suc n) f h =
-    let a = count_none n f (λ i l. h i (omega arith)) in
-    let b = ap {B = ℕ} (λ (t : Bool). cond t 1 0) (h n (omega arith)) in
-    omega arith
-
 count_one : (n : ℕ) (f : ℕ → Bool) → ((i j : ℕ) → i < n → j < n → f i ≡ true → f j ≡ true → i ≡ j) → count_below n f ≤ 1
 unfolding count_below
 count_one zero f h = omega arith
 count_one (suc n) f h =
     by (f n) (count_one n f (λ i j l m. h i j (omega arith) (omega arith)))
-    (λ e. count_none n f (λ i l. true_or_false (f i) (λ p. absurd (let q = h i n (omega arith) (omega arith) p e in omega arith))))
+    (λ e. count_below_none n f (λ i l. false_from_ne_true (f i) (λ p. absurd (let q = h i n (omega arith) (omega arith) p e in omega arith))))
     refl
   where
     by : (b : Bool) → count_below n f ≤ 1 → (f n ≡ true → count_below n f ≡ 0) → f n ≡ b → cond b 1 0 + count_below n f ≤ 1
@@ -144,7 +126,7 @@ module _ (n : ℕ) (f : ℕ → ℕ) (inside : (i : ℕ) → i < n → f i < n) 
   at_most_one m = count_one n (λ i. eqb (f i) m) (λ i j l k p q. apart i j l k (eqb-true (f i) m p ∙ sym (eqb-true (f j) m q)))
 
   at_most : (m : ℕ) → count_below n (λ i. ltb (f i) m) ≤ m
-  at_most zero = let h = count_none n (λ i. ltb (f i) 0) (λ i l. le-ltb (f i) 0 (omega arith)) in omega arith
+  at_most zero = let h = count_below_none n (λ i. ltb (f i) 0) (λ i l. le-ltb (f i) 0 (omega arith)) in omega arith
   at_most (suc m) = let h = at_most m in omega (arith, count_next n m f, at_most_one m)
 
   at_least : (d m : ℕ) → m + d ≡ n → n ≤ count_below n (λ i. ltb (f i) m) + d

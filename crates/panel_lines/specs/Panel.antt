@@ -1,15 +1,15 @@
 -- 01, "Panel": the lines that a record and its counts are shown as.
-use Rattle.std.specs.Prelude.{Bool, ◌&&◌, cond, List, [], ◌∷◌, ◌++◌, ℕ, zero, suc, ◌+◌, ◌-◌, ◌*◌, ◌/◌, ◌%◌, length, take, drop, eqb, leb, ltb}
-use Rattle.refusal.specs.Numbers.{bad_counts, bad_field, bad_length, short_buffer, unknown_version}
-use Rattle.refusal.specs.Guards.{Test, test, guarded}
+use Rattle.std.specs.Prelude.{Bool, ◌&&◌, cond, List, [], ◌∷◌, ◌++◌, ℕ, zero, suc, ◌+◌, ◌-◌, ◌*◌, ◌/◌, ◌%◌, length, take, drop, eqb, leb, ltb, Result, Ok, Err}
+use Rattle.refusal.specs.declared.Refusal.{Refusal}
+use Rattle.refusal.specs.declared.Refusal.TheVariants.{BadCounts, BadField, BadLength, ShortBuffer, UnknownVersion}
+use Rattle.refusal.specs.Guards.{Check, check, checked}
 use Rattle.rule_tree.specs.declared.Node.{Node}
 use Rattle.rule_tree.specs.declared.RuleTree.{RuleTree}
 use Rattle.rule_tree.specs.Lists.{tabulate}
 use Rattle.rule_tree.specs.Nodes.{is_leaf_of, node_count}
 use Rattle.rule_tree.specs.Counts.{counts_hold}
 use Rattle.wire.specs.Bytes.{number_at}
-use Rattle.record.specs.declared.Saved.{Saved}
-use Rattle.record.specs.declared.Saved.TheVariants.{Size, Refused}
+use Rattle.record.specs.Layout.{most_length}
 use Rattle.record.specs.Read.{read_of}
 use Rattle.record.specs.Calls.{version_holds, body_holds}
 use Rattle.panel_lines.specs.Shares.{share_among}
@@ -58,7 +58,7 @@ counts_in bytes n = tabulate n (λ i. number_at bytes (8 * i) 8)
 
 -- "6 fewer than 4 bytes, or the u32 over 16,384 or .. (panel: more than follow)"
 unfoldable pub start_holds : List ℕ → Bool
-start_holds input = leb 4 (length input) && (leb (number_at input 0 4) 16384 && leb (number_at input 0 4) (length input - 4))
+start_holds input = leb 4 (length input) && (leb (number_at input 0 4) most_length && leb (number_at input 0 4) (length input - 4))
 
 -- the tree of the record, the counts of its nodes, and its lines
 abbrev pub tree_in : List ℕ → RuleTree
@@ -71,17 +71,17 @@ abbrev pub text_of : List ℕ → List ℕ
 text_of input = lines_of (tree_in input) (counts_of input)
 
 -- "6, 7, 8, in the panel then 4", and 9 for a buffer that is too short
-abbrev pub panel_order : List ℕ → List ℕ → List Test
+abbrev pub panel_order : List ℕ → List ℕ → List Check
 panel_order input out =
-    test (start_holds input) bad_length ∷ test (version_holds (record_part input)) unknown_version ∷ test (body_holds (record_part input)) bad_field
-    ∷ test (eqb (length (counts_part input)) (8 * node_count (tree_in input).splits) && counts_hold (tree_in input) (counts_of input)) bad_counts
-    ∷ test (leb (length (text_of input)) (length out)) short_buffer ∷ []
+    check (start_holds input) BadLength ∷ check (version_holds (record_part input)) UnknownVersion ∷ check (body_holds (record_part input)) BadField
+    ∷ check (eqb (length (counts_part input)) (8 * node_count (tree_in input).splits) && counts_hold (tree_in input) (counts_of input)) BadCounts
+    ∷ check (leb (length (text_of input)) (length out)) ShortBuffer ∷ []
 
-unfoldable pub panel_of : List ℕ → List ℕ → Saved
+unfoldable pub panel_of : List ℕ → List ℕ → Result ℕ Refusal
 unfolding start_holds
-panel_of input out = guarded (panel_order input out) Refused (Size (length (text_of input)))
+panel_of input out = checked (panel_order input out) (Ok (length (text_of input)))
 
 -- the buffer after: the lines, and then what it held; a refused panel changes no byte
-unfoldable pub out_after : List ℕ → List ℕ → Saved → List ℕ
-out_after input out (Size n) = text_of input ++ drop n out
-out_after input out (Refused k) = out
+unfoldable pub out_after : List ℕ → List ℕ → Result ℕ Refusal → List ℕ
+out_after input out (Ok n) = text_of input ++ drop n out
+out_after input out (Err r) = out

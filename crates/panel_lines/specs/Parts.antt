@@ -1,15 +1,15 @@
 -- What the private functions of the code are held to: parts of the lines, and of what the panel answers.
-use Rattle.std.specs.Prelude.{◌≡◌, true, cond, List, [], ◌++◌, ℕ, ◌+◌, ◌*◌, ◌≤◌, length, get_or, drop, eqb, leb}
+use Rattle.std.specs.Prelude.{◌≡◌, true, cond, List, [], ◌∷◌, ◌++◌, ℕ, ◌+◌, ◌*◌, ◌≤◌, length, get_or, drop, eqb, leb, Result, Ok, Err}
 use Rattle.std.proofs.lemmas.List.Edits.{sets}
-use Rattle.refusal.specs.Numbers.{bad_counts, short_buffer}
+use Rattle.refusal.specs.declared.Refusal.{Refusal}
+use Rattle.refusal.specs.declared.Refusal.TheVariants.{BadCounts, ShortBuffer}
+use Rattle.refusal.specs.Guards.{check, checked, and_then}
 use Rattle.rule_tree.specs.declared.Node.{Node}
 use Rattle.rule_tree.specs.declared.RuleTree.{RuleTree}
 use Rattle.rule_tree.specs.Lists.{total}
 use Rattle.rule_tree.specs.Nodes.{node_count}
 use Rattle.rule_tree.specs.Counts.{counts_hold}
-use Rattle.trainer.specs.declared.Answered.{Answered}
-use Rattle.record.specs.declared.Saved.{Saved}
-use Rattle.record.specs.declared.Saved.TheVariants.{Size, Refused}
+use Rattle.trainer.specs.declared.Trainer.{Trainer}
 use Rattle.panel_lines.specs.Panel.{leaf_line, leaf_lines, lines_of, counts_in}
 
 -- m is l with xs stored from place at on, and k is the place after them
@@ -39,26 +39,24 @@ pub record Lines (buf : List ℕ) (t : RuleTree) (xs : List ℕ) (all : ℕ) : T
   pub room : length (lines_of t xs) ≤ length buf
 
 -- what a tree and its counts are shown as, and the buffer after
-abbrev pub fitted : List ℕ → List ℕ → Saved
-fitted text out = cond (leb (length text) (length out)) (Size (length text)) (Refused short_buffer)
+abbrev pub fitted : List ℕ → List ℕ → Result ℕ Refusal
+fitted text out = checked (check (leb (length text) (length out)) ShortBuffer ∷ []) (Ok (length text))
 
-abbrev pub lines_shown : RuleTree → List ℕ → List ℕ → Saved
-lines_shown t xs out = cond (counts_hold t xs) (fitted (lines_of t xs) out) (Refused bad_counts)
+abbrev pub lines_shown : RuleTree → List ℕ → List ℕ → Result ℕ Refusal
+lines_shown t xs out = checked (check (counts_hold t xs) BadCounts ∷ []) (fitted (lines_of t xs) out)
 
-unfoldable pub lines_after : RuleTree → List ℕ → List ℕ → Saved → List ℕ
-lines_after t xs out (Size n) = lines_of t xs ++ drop n out
-lines_after t xs out (Refused k) = out
+unfoldable pub lines_after : RuleTree → List ℕ → List ℕ → Result ℕ Refusal → List ℕ
+lines_after t xs out (Ok n) = lines_of t xs ++ drop n out
+lines_after t xs out (Err r) = out
 
 -- a tree and the bytes of its counts
-unfoldable pub counts_shown : RuleTree → List ℕ → List ℕ → Saved
+unfoldable pub counts_shown : RuleTree → List ℕ → List ℕ → Result ℕ Refusal
 counts_shown t bytes out =
-    let counts = counts_in bytes (node_count t.splits) in
-    cond (eqb (length bytes) (8 * node_count t.splits)) (lines_shown t counts out) (Refused bad_counts)
+    checked (check (eqb (length bytes) (8 * node_count t.splits)) BadCounts ∷ []) (lines_shown t (counts_in bytes (node_count t.splits)) out)
 
-abbrev pub counts_after : RuleTree → List ℕ → List ℕ → Saved → List ℕ
+abbrev pub counts_after : RuleTree → List ℕ → List ℕ → Result ℕ Refusal → List ℕ
 counts_after t bytes out r = lines_after t (counts_in bytes (node_count t.splits)) out r
 
 -- what was loaded, and the bytes after it
-unfoldable pub record_shown : Answered → List ℕ → List ℕ → Saved
-unfolding counts_shown
-record_shown a bytes out = cond (eqb a.refused 0) (counts_shown a.trainer.tree bytes out) (Refused a.refused)
+abbrev pub record_shown : Result Trainer Refusal → List ℕ → List ℕ → Result ℕ Refusal
+record_shown loaded bytes out = and_then loaded (λ t. counts_shown t.tree bytes out)

@@ -5,23 +5,16 @@ ghost use Rattle.std.specs.Prelude.{◌≡◌};
 ghost use Rattle.panel_lines.specs.Panel.{panel_of, out_after};
 
 use crate::inner::{read, show};
-use record::Saved;
+use refusal::Refusal;
 
 pub mod inner;
 
-// Writes the lines of the record and the counts that input holds, and answers their size. A refused panel writes nothing.
-pub fn panel(input: &[u8], out: &mut [u8]) -> Saved
+// Writes the lines of the record and the counts that input holds, and answers their size. A refused panel writes nothing. A trace begins with the
+// same two lines; one function for both is no plainer, since it would answer the trainer beside the rest of the input.
+pub fn panel(input: &[u8], out: &mut [u8]) -> Result<usize, Refusal>
     ensures { (result ≡ panel_of input.now out.old) × (out.new ≡ out_after input.now out.old (panel_of input.now out.old)) }
 {
-    if read::start_holds(input) {
-        let n = read::record_size(input);
-        let a = record::load(&input[0..n]);
-        if a.refused == 0 {
-            let t = a.trainer;
-            let tree = t.tree;
-            return show::counts_shown(tree, &input[n..], out);
-        }
-        return Saved::Refused(a.refused);
-    }
-    Saved::Refused(refusal::BAD_LENGTH)
+    let n = read::record_size(input)?;
+    let t = record::load(&input[..n])?;
+    show::counts_shown(&t.tree, &input[n..], out)
 }

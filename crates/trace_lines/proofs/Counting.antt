@@ -5,11 +5,11 @@ use mathlib.Core.List.{List}
 use Prim.Native.Nat.{ℕ, suc, ◌+◌, ◌-◌, ◌<◌, ◌≤◌}
 use native.Mathlib.Omega.{arith}
 use lib.ListN.{length, take, drop, length-drop}
+use Rattle.std.specs.Prelude.{Option, None, Some}
 use Rattle.sender.specs.declared.Event.{Event}
-use Rattle.trace_lines.specs.declared.inner.read.Counted.TheVariants.{Whole, Broken}
 use Rattle.trace_lines.specs.Trace.{size_of, head_holds, whole_events, events_from, whole_in_of, events_in}
 use Rattle.trace_lines.specs.Parts.{event_size, counted_of}
-use Rattle.trace_lines.proofs.Events.{lent, size-zero, size-some, size_there, size-bounds, whole_none, events_none, whole_turn, events_turn}
+use Rattle.trace_lines.proofs.Events.{lent, size-none, size-some, size_there, size-bounds, whole_none, events_none, whole_turn, events_turn}
 
 -- n events stand before place at, and the rest is as whole as all
 pub record Counting (body : List ℕ) (at n : ℕ) : Type 0 where
@@ -18,40 +18,32 @@ pub record Counting (body : List ℕ) (at n : ℕ) : Type 0 where
   pub whole : whole_in_of body ≡ whole_events (length body - n) (drop at body)
   pub count : length (events_in body) ≡ n + length (events_from (length body - n) (drop at body))
 
-pub counting_starts : (body : List ℕ) → Counting body 0 0
-counting_starts body =
-    let e : length body - 0 ≡ length body = omega arith in
-    record { steps = omega arith; inside = omega arith; whole = ap (λ (k : ℕ). whole_events k body) (sym e); count = ap (λ (k : ℕ). length (events_from k body)) (sym e) ∙ omega arith }
-
-module _ (body : List ℕ) (at n size : ℕ) (c : Counting body at n) where
-  module _ (l : at < length body) (e : size ≡ event_size (take (length body - at) (drop at body))) where
-    size_left : size ≡ event_size (drop at body)
+module _ (body : List ℕ) (at n : ℕ) (c : Counting body at n) where
+  module _ (l : at < length body) {r : Option ℕ} (e : r ≡ event_size (take (length body - at) (drop at body))) where
+    size_left : r ≡ event_size (drop at body)
     size_left = e ∙ ap event_size (lent body at n)
 
-    pub counted_broken : size ≡ 0 → Broken ≡ counted_of body
+    pub counted_broken : r ≡ None → None ≡ counted_of body
     unfolding counted_of
     counted_broken z =
-        let f = size-zero (drop at body) (sym size_left ∙ z) in
+        let f = size-none (drop at body) (sym size_left ∙ z) in
         let w : whole_in_of body ≡ false = c.whole ∙ whole_turn body at n c.steps l ∙ rw f in
         rw w
 
-    module _ (z : size ≡ 0 → ⊥) where
-      head : (head_holds (drop at body) ≡ true) × (event_size (drop at body) ≡ size_of (drop at body))
-      head = size-some (drop at body) (λ q. z (size_left ∙ q))
-
-      size_is : size ≡ size_of (drop at body)
-      size_is = size_left ∙ head.1
+    module _ (size : ℕ) (z : r ≡ Some size) where
+      head : (head_holds (drop at body) ≡ true) × (size ≡ size_of (drop at body))
+      head = size-some (drop at body) size (sym size_left ∙ z)
 
       pub counting_inside : (at + size ≤ length body) × (2 ≤ size)
       counting_inside =
           let a = size_there (drop at body) head.0 in
           let b = size-bounds (drop at body) head.0 in
-          (omega (arith, size_is, length-drop at body), omega (arith, size_is))
+          (omega (arith, head.1, length-drop at body), omega (arith, head.1))
 
       pub counting_turn : Counting body (at + size) (n + 1)
       counting_turn =
           let a = counting_inside in
-          let place : drop (at + size_of (drop at body)) body ≡ drop (at + size) body = ap (λ (k : ℕ). drop (at + k) body) (sym size_is) in
+          let place : drop (at + size_of (drop at body)) body ≡ drop (at + size) body = ap (λ (k : ℕ). drop (at + k) body) (sym head.1) in
           let h = head.0 in
           record {
             steps = omega (arith, c.steps);
@@ -64,7 +56,7 @@ module _ (body : List ℕ) (at n size : ℕ) (c : Counting body at n) where
                 ∙ ap (λ (r : List ℕ). n + suc (length (events_from (length body - (n + 1)) r))) place ∙ omega arith;
           }
 
-  pub counted_whole : length body ≤ at → Whole n ≡ counted_of body
+  pub counted_whole : length body ≤ at → Some n ≡ counted_of body
   unfolding counted_of
   counted_whole l =
       let z : length (drop at body) ≡ 0 = omega (arith, length-drop at body) in

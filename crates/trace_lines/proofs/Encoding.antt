@@ -18,7 +18,7 @@ use Rattle.sender.specs.declared.Event.{Event}
 use Rattle.sender.specs.declared.Event.TheVariants.{Ack, Send, Tick}
 use Rattle.trace_lines.specs.Trace.{kind_holds, size_of, head_holds, event_in, whole_events, events_from, events_part, start_of}
 use Rattle.trace_lines.specs.Encoding.{event_bytes, events_bytes, trace_bytes, FitEvent, FitEvents}
-use Rattle.trace_lines.proofs.Reading.{start_told}
+use Rattle.trace_lines.proofs.Reading.{start_so}
 use Rattle.trace_lines.proofs.Events.{head_as, whole_none, events_none, whole_some, events_some}
 
 float_count : (x : Float) → length (float_bytes x) ≡ 8
@@ -34,13 +34,13 @@ module _ (rest : List ℕ) where
 
   event_size_lem : (e : Event) → size_of (then e) ≡ length (event_bytes e)
   unfolding event_bytes
-  event_size_lem (Ack sent received draw) = omega (arith, ack_count_lem sent received)
+  event_size_lem (Ack x) = omega (arith, ack_count_lem x.sent x.received)
   event_size_lem (Send at) = omega (arith, float_count at)
   event_size_lem Tick = refl
 
   event_kind : (e : Event) → kind_holds (get_or (then e) 0 0) (get_or (then e) 1 0) ≡ true
   unfolding event_bytes kind_holds
-  event_kind (Ack sent received draw) = refl
+  event_kind (Ack x) = refl
   event_kind (Send at) = refl
   event_kind Tick = refl
 
@@ -51,13 +51,13 @@ module _ (rest : List ℕ) where
 
   event_read : (e : Event) → FitEvent e → event_in (then e) ≡ e
   unfolding event_bytes event_in
-  event_read (Ack sent received draw) f =
-      let bytes = then (Ack sent received draw) in
-      let here : Stands bytes 2 (float_bytes sent ++ float_bytes received) = record { rest = rest; is = refl } in
-      let a = float_back bytes 2 sent f.0 (first bytes 2 (float_bytes sent) (float_bytes received) here) in
-      let b = float_back bytes 10 received f.1 (next bytes 2 8 (float_bytes sent) (float_bytes received) (float_count sent) here) in
+  event_read (Ack x) f =
+      let bytes = then (Ack x) in
+      let here : Stands bytes 2 (float_bytes x.sent ++ float_bytes x.received) = record { rest = rest; is = refl } in
+      let a = float_back bytes 2 x.sent f.0 (first bytes 2 (float_bytes x.sent) (float_bytes x.received) here) in
+      let b = float_back bytes 10 x.received f.1 (next bytes 2 8 (float_bytes x.sent) (float_bytes x.received) (float_count x.sent) here) in
       let d = sym f.2 in
-      (λ j. Ack (a j) (b j) (d j))
+      (λ j. Ack (record { sent = a j; received = b j; draw = d j }))
   event_read (Send at) f =
       let bytes = then (Send at) in
       ap Send (float_back bytes 2 at f (record { rest = rest; is = refl }))
@@ -66,7 +66,7 @@ module _ (rest : List ℕ) where
 -- ---- all of them
 two : (e : Event) → 2 ≤ length (event_bytes e)
 unfolding event_bytes
-two (Ack sent received draw) = omega arith
+two (Ack x) = omega arith
 two (Send at) = omega arith
 two Tick = omega arith
 
@@ -126,4 +126,4 @@ module _ (es : List Event) where
       let bytes = trace_bytes es in
       let n = number_back bytes 0 4 number (omega arith) (first bytes 0 (bytes_of 4 number) (1 ∷ events_bytes es) (stands_all bytes)) in
       let v = sym (get_or-drop 4 bytes 0 0) ∙ ap (λ (r : List ℕ). get_or r 0 0) after_number in
-      sym (start_told bytes (omega (arith, trace_length)) (omega (arith, trace_length)) (sym n) (omega (arith, trace_length)) (sym v))
+      start_so bytes (omega (arith, trace_length)) (omega (arith, trace_length)) (omega (arith, n, trace_length)) v

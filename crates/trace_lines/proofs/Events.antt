@@ -8,6 +8,7 @@ use borrow.Author.Tests.{eq-eqb, ne_eqb, eqb-true, eqb-false, leb-true}
 use lib.Dec.{eqb, leb}
 use lib.ListN.{length, get_or, take, drop, length-drop}
 use lib.Seq.{take_all, drop-drop}
+use Rattle.std.specs.Prelude.{Option, None, Some}
 use Rattle.rule_tree.proofs.Lists.{and_left, and_right}
 use Rattle.trace_lines.specs.Trace.{kind_holds, size_of, head_holds, event_in, whole_events, events_from}
 use Rattle.trace_lines.specs.Parts.{event_size}
@@ -52,24 +53,24 @@ module _ (bytes : List ℕ) where
     pub size_there : size_of bytes ≤ length bytes
     size_there = leb-true (size_of bytes) (length bytes) (and_right (kind_holds (get_or bytes 0 0) (get_or bytes 1 0)) (leb (size_of bytes) (length bytes)) head_both)
 
-  -- the code's 0 says that the event is not whole
-  size_by : event_size bytes ≡ cond (head_holds bytes) (size_of bytes) 0
+  -- the size that the code answers
+  size_by : event_size bytes ≡ cond (head_holds bytes) (Some (size_of bytes)) None
   unfolding event_size
   size_by = refl
 
-  pub size-zero : event_size bytes ≡ 0 → head_holds bytes ≡ false
-  size-zero e = by (head_holds bytes) (sym size_by ∙ e)
+  pub size-none : event_size bytes ≡ None → head_holds bytes ≡ false
+  size-none e = by (head_holds bytes) (sym size_by ∙ e)
     where
-      by : (b : Bool) → cond b (size_of bytes) 0 ≡ 0 → b ≡ false
-      by true e = absurd (omega arith)
+      by : (b : Bool) → ◌≡◌ {A = Option ℕ} (cond b (Some (size_of bytes)) None) None → b ≡ false
+      by true e = cc
       by false e = refl
 
-  pub size-some : (event_size bytes ≡ 0 → ⊥) → (head_holds bytes ≡ true) × (event_size bytes ≡ size_of bytes)
-  size-some n = by (head_holds bytes) refl
+  pub size-some : (n : ℕ) → event_size bytes ≡ Some n → (head_holds bytes ≡ true) × (n ≡ size_of bytes)
+  size-some n e = by (head_holds bytes) (sym size_by ∙ e)
     where
-      by : (b : Bool) → head_holds bytes ≡ b → (b ≡ true) × (event_size bytes ≡ size_of bytes)
-      by true e = (refl, size_by ∙ rw e)
-      by false e = absurd (n (size_by ∙ rw e))
+      by : (b : Bool) → ◌≡◌ {A = Option ℕ} (cond b (Some (size_of bytes)) None) (Some n) → (b ≡ true) × (n ≡ size_of bytes)
+      by true e = (refl, cc)
+      by false e = absurd (cc)
 
   -- ---- no bytes are no events
   module _ (e : length bytes ≡ 0) where

@@ -1,76 +1,68 @@
 -- The ways through a record and a trace, each by the tests that lead there. Assumes nothing.
 use mathlib.Core.Path.{◌≡◌, refl, sym, ap, ◌∙◌}
-use mathlib.Core.Bool.{Bool, true, false, false≢true, cond}
+use mathlib.Core.Bool.{Bool, true, false, cond}
 use mathlib.Core.List.{List}
 use Prim.Native.Nat.{ℕ}
-use borrow.Author.Tests.{eq-eqb, ne_eqb}
-use lib.Dec.{eqb}
-use Rattle.trainer.specs.declared.Answered.{Answered}
-use Rattle.trainer.specs.Phases.{refuse, taken}
-use Rattle.trainer.specs.Calls.{blank_trainer}
-use Rattle.record.specs.declared.Saved.{Saved}
-use Rattle.record.specs.declared.Saved.TheVariants.{Size, Refused}
+use Rattle.std.specs.Prelude.{[], ◌∷◌, Result, Ok, Err}
+use Rattle.refusal.specs.declared.Refusal.{Refusal}
+use Rattle.refusal.specs.declared.Refusal.TheVariants.{BadField, BadLength, UnknownVersion}
+use Rattle.refusal.specs.Guards.{check, checked, and_then}
+use Rattle.trainer.specs.declared.Trainer.{Trainer}
 use Rattle.record.specs.Read.{read_of}
-use Rattle.record.specs.Calls.{length_holds, version_holds, body_holds, load_of}
+use Rattle.record.specs.Calls.{version_holds, body_holds, load_of}
+use Rattle.record.proofs.Loading.{loaded_then}
+use Rattle.record.proofs.BytesFit.{loaded_is}
+use Rattle.rule_tree.specs.declared.RuleTree.{RuleTree}
 use Rattle.panel_lines.specs.Panel.{record_part, start_holds, tree_in}
-use Rattle.panel_lines.proofs.Nested.{part_held, loaded}
+use Rattle.panel_lines.proofs.Nested.{part_held}
 use Rattle.trace_lines.specs.Trace.{trace_part, trace_of, out_after}
 use Rattle.trace_lines.specs.Parts.{traced_of, traced_after}
 use Rattle.trace_lines.proofs.Ways.{Traced}
 
--- where the start holds, the loader's number is that of its version or its body
-pub by_loader : {A : Type 0} (input : List ℕ) → start_holds input ≡ true → (turn : ℕ → A) (rest : A)
-    → cond (version_holds (record_part input)) (cond (body_holds (record_part input)) rest (turn 8)) (turn 7)
-    ≡ cond (eqb (load_of (record_part input)).refused 0) rest (turn (load_of (record_part input)).refused)
-unfolding load_of
-by_loader {A} input h turn rest = by (length_holds bytes) (version_holds bytes) (body_holds bytes) (part_held input h)
-  where
-    bytes : List ℕ
-    bytes = record_part input
-
-    answer : Bool → Bool → Bool → Answered
-    answer x y z = cond x (cond y (cond z (taken (read_of bytes)) (refuse 8 blank_trainer)) (refuse 7 blank_trainer)) (refuse 6 blank_trainer)
-
-    by : (x y z : Bool) → x ≡ true → cond y (cond z rest (turn 8)) (turn 7) ≡ cond (eqb (answer x y z).refused 0) rest (turn (answer x y z).refused)
-    by true true true e = refl
-    by true true false e = refl
-    by true false z e = refl
-    by false y z e = absurd (false≢true e)
-
 module _ (input out : List ℕ) where
-  trace_nested : trace_of input out
-      ≡ cond (start_holds input)
-      (cond (version_holds (record_part input)) (cond (body_holds (record_part input)) (traced_of (tree_in input) (trace_part input) out) (Refused 8)) (Refused 7))
-      (Refused 6)
-  unfolding trace_of traced_of
-  trace_nested = refl
+  call : Trainer → Result ℕ Refusal
+  call t = traced_of t.tree (trace_part input) out
 
-  pub trace_short : start_holds input ≡ false → (Refused 6 ≡ trace_of input out) × (out ≡ out_after input out (trace_of input out))
+  -- a record that starts is loaded, and then the trace is answered over its trainer's tree
+  trace_nested : trace_of input out ≡ checked (check (start_holds input) BadLength ∷ []) (and_then (load_of (record_part input)) call)
+  unfolding trace_of traced_of call
+  trace_nested = by (start_holds input) refl
+    where
+      rest : Result ℕ Refusal → Result ℕ Refusal
+      rest r = checked (check (version_holds (record_part input)) UnknownVersion ∷ check (body_holds (record_part input)) BadField ∷ []) r
+
+      by : (b : Bool) → start_holds input ≡ b
+          → cond b (rest (call (read_of (record_part input)))) (Err BadLength) ≡ cond b (and_then (load_of (record_part input)) call) (Err BadLength)
+      by true h =
+          ap (λ (b : Bool). cond b (rest (call (read_of (record_part input)))) (Err BadLength)) (sym (part_held input h))
+          ∙ sym (loaded_then (record_part input) call)
+      by false h = refl
+
+  pub trace_short : start_holds input ≡ false → (Err BadLength ≡ trace_of input out) × (out ≡ out_after input out (trace_of input out))
   unfolding out_after
-  trace_short h = let e : trace_of input out ≡ Refused 6 = trace_nested ∙ rw h in (sym e, rw e)
+  trace_short h = let e : trace_of input out ≡ Err BadLength = trace_nested ∙ rw h in (sym e, rw e)
 
-  after_same : (x : Saved) → traced_after (tree_in input) (trace_part input) out x ≡ out_after input out x
+  after_same : (x : Result ℕ Refusal) → traced_after (tree_in input) (trace_part input) out x ≡ out_after input out x
   unfolding out_after traced_after
-  after_same (Size n) = refl
-  after_same (Refused k) = refl
+  after_same (Ok n) = refl
+  after_same (Err r) = refl
 
-  module _ (h : start_holds input ≡ true) {a : Answered} (e : a ≡ load_of (record_part input)) where
-    trace_by : trace_of input out ≡ cond (eqb a.refused 0) (traced_of (tree_in input) (trace_part input) out) (Refused a.refused)
-    trace_by = trace_nested ∙ rw (h, e) (by_loader input h Refused (traced_of (tree_in input) (trace_part input) out))
-
-    pub trace_refused : (a.refused ≡ 0 → ⊥) → (Refused a.refused ≡ trace_of input out) × (out ≡ out_after input out (trace_of input out))
+  module _ (h : start_holds input ≡ true) where
+    pub trace_refused : (r : Refusal) → load_of (record_part input) ≡ Err r → (Err r ≡ trace_of input out) × (out ≡ out_after input out (trace_of input out))
     unfolding out_after
-    trace_refused n =
-        let q = ne_eqb a.refused 0 n in
-        let p : trace_of input out ≡ Refused a.refused = trace_by ∙ rw q in
+    trace_refused r e =
+        let p : trace_of input out ≡ Err r = trace_nested ∙ rw (h, e) in
         (sym p, rw p)
 
-    pub trace_taken : (bytes : List ℕ) {v : Saved} {r : List ℕ} → bytes ≡ trace_part input → a.refused ≡ 0 → Traced a.trainer.tree bytes out v r
-        → (v ≡ trace_of input out) × (r ≡ out_after input out (trace_of input out))
-    trace_taken bytes f z p =
-        let t : a.trainer.tree ≡ tree_in input = ap (λ (b : Answered). b.trainer.tree) (e ∙ loaded (record_part input) (sym (ap (λ (b : Answered). b.refused) e) ∙ z)) in
-        let s : traced_of (tree_in input) (trace_part input) out ≡ trace_of input out = sym (trace_by ∙ rw (eq-eqb a.refused 0 z)) in (
-          p.0 ∙ (λ j. traced_of (t j) (f j) out) ∙ s,
-          p.1 ∙ (λ j. traced_after (t j) (f j) out (traced_of (t j) (f j) out)) ∙ ap (traced_after (tree_in input) (trace_part input) out) s
+    pub trace_taken : (t : Trainer) (bytes : List ℕ) {v : Result ℕ Refusal} {r : List ℕ} → load_of (record_part input) ≡ Ok t → bytes ≡ trace_part input
+        → Traced t.tree bytes out v r → (v ≡ trace_of input out) × (r ≡ out_after input out (trace_of input out))
+    unfolding call
+    trace_taken t bytes e f p =
+        let s : traced_of t.tree (trace_part input) out ≡ trace_of input out = sym (trace_nested ∙ rw (h, e)) in
+        let z : t.tree ≡ tree_in input = ap (λ (u : Trainer). u.tree) (sym (loaded_is (record_part input) t e)) in (
+          p.0 ∙ ap (λ (b : List ℕ). traced_of t.tree b out) f ∙ s,
+          p.1 ∙ ap (λ (b : List ℕ). traced_after t.tree b out (traced_of t.tree b out)) f
+              ∙ ap (traced_after t.tree (trace_part input) out) s
+              ∙ ap (λ (b : RuleTree). traced_after b (trace_part input) out (trace_of input out)) z
               ∙ after_same (trace_of input out),
         )

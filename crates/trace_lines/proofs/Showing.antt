@@ -8,17 +8,18 @@ use borrow.Author.Tests.{ltb-true, ltb-false}
 use lib.Dec.{ltb}
 use lib.ListN.{length, take, drop, length-append, length-drop}
 use lib.Seq.{length-sets}
+use Rattle.std.specs.Prelude.{Result}
+use Rattle.refusal.specs.declared.Refusal.{Refusal}
 use Rattle.rule_tree.specs.declared.RuleTree.{RuleTree}
 use Rattle.rule_tree.proofs.Lists.{and_left, and_right}
 use Rattle.sender.specs.declared.Event.{Event}
-use Rattle.sender.specs.declared.RepeatMode.TheVariants.{Off}
 use Rattle.sender.specs.declared.Sender.{Sender}
-use Rattle.sender.specs.declared.Reply.{Reply}
+use Rattle.sender.specs.declared.Held.{Held}
 use Rattle.sender.specs.SenderCall.{on}
-use Rattle.sender.specs.Sender.{fresh_sender, replied_to, left_by}
+use Rattle.sender.specs.Sender.{replied_to, left_by}
 use Rattle.panel_lines.specs.Parts.{Wrote}
-use Rattle.panel_lines.proofs.Lines.{then, named, nothing}
-use Rattle.trace_lines.specs.Trace.{size_of, head_holds, event_in, whole_events, events_from, whole_in_of, events_in, line_of, lines_from}
+use Rattle.panel_lines.proofs.Lines.{then, named}
+use Rattle.trace_lines.specs.Trace.{size_of, head_holds, event_in, whole_events, events_from, events_in, line_of, lines_from}
 use Rattle.trace_lines.proofs.Events.{lent, size-bounds, size_there, events_none, whole_turn, events_turn}
 use Rattle.trace_lines.proofs.Windows.{reply_small, left_small, line_few}
 
@@ -46,10 +47,6 @@ none_left : (es : List Event) → length es ≡ 0 → es ≡ []
 none_left [] e = refl
 none_left (x ∷ es) e = absurd (omega arith)
 
--- the sender that the loop begins with
-pub fresh_small : {u : Sender} → u ≡ fresh_sender Off → u.window ≤ 1000000
-fresh_small e = omega (arith, ap (λ (z : Sender). z.window) e)
-
 -- after i events, which stand before place at: their lines are stored, and the rest is to come
 pub record Shown (t : RuleTree) (body : List ℕ) (n : ℕ) (s : Sender) (l m : List ℕ) (u : Sender) (at next i : ℕ) : Type 0 where
   pub some : i ≤ n
@@ -64,22 +61,6 @@ pub record Shown (t : RuleTree) (body : List ℕ) (n : ℕ) (s : Sender) (l m : 
   pub lines : lines_from t s (events_in body) ≡ done ++ lines_from t u (events_from (length body - i) (drop at body))
 
 module _ (t : RuleTree) (body : List ℕ) (n : ℕ) (s : Sender) (l : List ℕ) where
-  pub shown_starts : whole_in_of body ≡ true → n ≡ length (events_in body) → s.window ≤ 1000000 → Shown t body n s l l s 0 0 0
-  shown_starts w k b =
-      let e : length body - 0 ≡ length body = omega arith in
-      record {
-        some = omega arith;
-        steps = omega arith;
-        inside = omega arith;
-        whole = ap (λ (f : ℕ). whole_events f body) e ∙ w;
-        count = k ∙ ap (λ (f : ℕ). length (events_from f body)) (sym e) ∙ omega arith;
-        small = b;
-        room = omega arith;
-        done = [];
-        wrote = nothing l 0;
-        lines = ap (λ (f : ℕ). lines_from t s (events_from f body)) (sym e);
-      }
-
   module _ (m : List ℕ) (u : Sender) (at next i : ℕ) (c : Shown t body n s l m u at next i) where
     rest : List Event
     rest = events_from (length body - i) (drop at body)
@@ -111,7 +92,7 @@ module _ (t : RuleTree) (body : List ℕ) (n : ℕ) (s : Sender) (l : List ℕ) 
       head : head_holds (drop at body) ≡ true
       head = and_left (head_holds (drop at body)) (whole_events (length body - (i + 1)) (drop (at + size_of (drop at body)) body)) both
 
-      module _ {x : Event} {size : ℕ} {r : Reply} (a : x ≡ event_in (take (length body - at) (drop at body)))
+      module _ {x : Event} {size : ℕ} {r : Result Held Refusal} (a : x ≡ event_in (take (length body - at) (drop at body)))
           (b : size ≡ size_of (take (length body - at) (drop at body))) (q : r ≡ replied_to u (on t x))
         where
           size_is : size ≡ size_of (drop at body)
@@ -124,7 +105,7 @@ module _ (t : RuleTree) (body : List ℕ) (n : ℕ) (s : Sender) (l : List ℕ) 
               (omega (arith, size_is, length-drop at body), omega (arith, size_is))
 
           pub line_short : length (line_of r) ≤ 11
-          line_short = subst (λ (z : Reply). length (line_of z) ≤ 11) (sym q) (line_few (replied_to u (on t x)) (reply_small t u x c.small))
+          line_short = subst (λ (z : Result Held Refusal). length (line_of z) ≤ 11) (sym q) (line_few (replied_to u (on t x)) (reply_small t u x c.small))
 
           pub line_room : 11 * n ≤ length l → next + length (line_of r) ≤ length m
           line_room f = omega (arith, c.room, line_short, shown_length)
@@ -144,7 +125,7 @@ module _ (t : RuleTree) (body : List ℕ) (n : ℕ) (s : Sender) (l : List ℕ) 
           lines_on : {v : Sender} → v ≡ left_by u r → lines_from t u rest ≡ line_of r ++ lines_from t v (events_from (length body - (i + 1)) (drop (at + size) body))
           lines_on {v} f =
               ap (lines_from t u) left_is ∙ lines_more t u x (events_from (length body - (i + 1)) (drop (at + size) body))
-              ∙ ap (λ (z : Reply). line_of z ++ lines_from t (left_by u z) (events_from (length body - (i + 1)) (drop (at + size) body))) (sym q)
+              ∙ ap (λ (z : Result Held Refusal). line_of z ++ lines_from t (left_by u z) (events_from (length body - (i + 1)) (drop (at + size) body))) (sym q)
               ∙ ap (λ (w : Sender). line_of r ++ lines_from t w (events_from (length body - (i + 1)) (drop (at + size) body))) (sym f)
 
           pub shown_turn : {m1 : List ℕ} {v : Sender} {k : ℕ} → Wrote m next m1 k (line_of r) → v ≡ left_by u r → Shown t body n s l m1 v (at + size) k (i + 1)

@@ -3,47 +3,64 @@
 use mathlib.Core.Path.{◌≡◌, refl, sym, ap, ◌∙◌}
 use mathlib.Core.Bool.{Bool, true, false, false≢true, ◌&&◌, cond}
 use mathlib.Core.List.{List, [], ◌∷◌, ◌++◌}
-use Prim.Native.Nat.{ℕ, ◌+◌, ◌<◌, ◌≤◌}
+use Prim.Native.Nat.{ℕ, ◌+◌, ◌≤◌}
 use native.Mathlib.Omega.{arith}
 use borrow.Author.Tests.{leb-true, leb-false}
 use lib.Dec.{leb}
 use lib.ListN.{length, take, length-append, length-drop}
 use lib.Seq.{take_all, length-take-le}
-use Rattle.refusal.specs.Guards.{Test, guarded, first_of, passes}
+use Rattle.std.specs.Prelude.{Result, Ok, Err}
+use Rattle.refusal.specs.declared.Refusal.{Refusal}
+use Rattle.refusal.specs.declared.Refusal.TheVariants.{BadField, BadLength, BadTrace, ShortBuffer, UnknownVersion}
+use Rattle.refusal.specs.Numbers.{number_of}
+use Rattle.refusal.specs.Guards.{Check, check, checked, first_refused, pass}
 use Rattle.wire.specs.Bytes.{number_at}
-use Rattle.record.specs.declared.Saved.TheVariants.{Size, Refused}
 use Rattle.record.specs.Calls.{version_holds, body_holds}
 use Rattle.panel_lines.specs.Panel.{record_part, start_holds, tree_in}
 use Rattle.panel_lines.proofs.Nested.{long_start, first_number, first_record}
 use Rattle.sender.specs.declared.Event.{Event}
 use Rattle.sender.specs.declared.RepeatMode.TheVariants.{Off}
 use Rattle.sender.specs.Sender.{fresh_sender}
-use Rattle.trace_lines.specs.Trace.{trace_part, events_part, start_of, whole_in_of, events_in, events, trace_holds, refusal_line, lines_from, text_of, input_order, printed_of, room_for, trace_of}
+use Rattle.trace_lines.specs.Trace.{trace_part, events_part, start_of, whole_in_of, events_in, events, trace_holds, refusal_line, lines_from, text_of, input_order, printed_by, printed_of, room_for, trace_of}
 use Rattle.trace_lines.specs.Encoding.{events_bytes, trace_bytes, FitEvents}
 use Rattle.trace_lines.proofs.Reading.{start_over}
 use Rattle.trace_lines.proofs.Events.{whole_none, events_none}
 use Rattle.trace_lines.proofs.Showing.{lines_none, lines_few}
 use Rattle.trace_lines.proofs.Ways.{trace_as, room_most}
-use Rattle.trace_lines.proofs.Printing.{refusal_few, same_size, same_number, no_size, room_there}
+use Rattle.trace_lines.proofs.Lines.{refusal_few}
+use Rattle.trace_lines.proofs.Printing.{room_there}
 use Rattle.trace_lines.proofs.Encoding.{whole_back, events_back, events_there, start_back}
 
 -- what is printed, by the four tests
+abbrev turn : Refusal → List ℕ
+turn r = refusal_line (number_of r)
+
 abbrev line_by : List ℕ → Bool → Bool → Bool → Bool → List ℕ
-line_by text x y z w = cond x (cond y (cond z (cond w text (refusal_line 25)) (refusal_line 8)) (refusal_line 7)) (refusal_line 6)
+line_by text x y z w = cond x (cond y (cond z (cond w text (turn BadTrace)) (turn BadField)) (turn UnknownVersion)) (turn BadLength)
 
 printed_as : (input : List ℕ)
     → printed_of input ≡ line_by (text_of input) (start_holds input) (version_holds (record_part input)) (body_holds (record_part input)) (trace_holds (trace_part input))
-unfolding printed_of
-printed_as input = refl
+unfolding printed_of printed_by
+printed_as input =
+    by (start_holds input) (version_holds (record_part input)) (body_holds (record_part input)) (trace_holds (trace_part input))
+  where
+    by : (x y z w : Bool)
+        → printed_by (checked (check x BadLength ∷ check y UnknownVersion ∷ check z BadField ∷ check w BadTrace ∷ []) (Ok (text_of input)))
+        ≡ line_by (text_of input) x y z w
+    by true true true true = refl
+    by true true true false = refl
+    by true true false w = refl
+    by true false z w = refl
+    by false y z w = refl
 
 -- ---- an input of more bytes than any that is taken
 abbrev long_by : ℕ → List ℕ → List ℕ
-long_by n record_bytes_lem = cond (leb n 16384) (cond (version_holds record_bytes_lem) (cond (body_holds record_bytes_lem) (refusal_line 25) (refusal_line 8)) (refusal_line 7)) (refusal_line 6)
+long_by n bytes = cond (leb n 16384) (cond (version_holds bytes) (cond (body_holds bytes) (turn BadTrace) (turn BadField)) (turn UnknownVersion)) (turn BadLength)
 
 module _ (input : List ℕ) (l : 49157 ≤ length input) where
   long_trace : number_at input 0 4 ≤ 16384 → trace_holds (trace_part input) ≡ false
   long_trace m =
-      let e = sym (start_over (trace_part input) (omega (arith, length-drop (4 + number_at input 0 4) input))) in
+      let e = start_over (trace_part input) (omega (arith, length-drop (4 + number_at input 0 4) input)) in
       trace_as (trace_part input) ∙ rw e
 
   long_printed : printed_of input ≡ long_by (number_at input 0 4) (record_part input)
@@ -57,7 +74,7 @@ module _ (input : List ℕ) (l : 49157 ≤ length input) where
       z = body_holds (record_part input)
 
       by : (b : Bool) → leb (number_at input 0 4) 16384 ≡ b
-          → line_by (text_of input) b y z (trace_holds (trace_part input)) ≡ cond b (cond y (cond z (refusal_line 25) (refusal_line 8)) (refusal_line 7)) (refusal_line 6)
+          → line_by (text_of input) b y z (trace_holds (trace_part input)) ≡ cond b (cond y (cond z (turn BadTrace) (turn BadField)) (turn UnknownVersion)) (turn BadLength)
       by true e = rw (long_trace (leb-true (number_at input 0 4) 16384 e))
       by false e = refl
 
@@ -69,9 +86,9 @@ longer_input input = by (leb 49157 (length input)) refl
     long_same l = ap (λ (n : ℕ). long_by n (record_part (take 49157 input))) (first_number 49157 (omega arith) input) ∙ (go (leb (number_at input 0 4) 16384) refl)
       where
         lines : List ℕ → List ℕ
-        lines r = cond (version_holds r) (cond (body_holds r) (refusal_line 25) (refusal_line 8)) (refusal_line 7)
+        lines r = cond (version_holds r) (cond (body_holds r) (turn BadTrace) (turn BadField)) (turn UnknownVersion)
 
-        go : (b : Bool) → leb (number_at input 0 4) 16384 ≡ b → cond b (lines (record_part (take 49157 input))) (refusal_line 6) ≡ cond b (lines (record_part input)) (refusal_line 6)
+        go : (b : Bool) → leb (number_at input 0 4) 16384 ≡ b → cond b (lines (record_part (take 49157 input))) (turn BadLength) ≡ cond b (lines (record_part input)) (turn BadLength)
         go true e = ap lines (first_record 49157 (omega arith) input (leb-true (number_at input 0 4) 16384 e))
         go false e = refl
 
@@ -89,70 +106,74 @@ pub lines_fit : (input : List ℕ) → length (printed_of input) ≤ 180191
 lines_fit input =
     omega (arith, ap length (printed_as input), by (start_holds input) (version_holds (record_part input)) (body_holds (record_part input)) (trace_holds (trace_part input)) refl)
   where
-    turned : (k : ℕ) → k < 100 → length (refusal_line k) ≤ 180191
-    turned k l = omega (arith, refusal_few k l)
+    turned : (r : Refusal) → length (turn r) ≤ 180191
+    turned r = omega (arith, refusal_few r)
 
     by : (x y z w : Bool) → trace_holds (trace_part input) ≡ w → length (line_by (text_of input) x y z w) ≤ 180191
     by true true true true e = omega (arith, text_few input, room_most (trace_part input) e)
-    by true true true false e = turned 25 (omega arith)
-    by true true false w e = turned 8 (omega arith)
-    by true false z w e = turned 7 (omega arith)
-    by false y z w e = turned 6 (omega arith)
+    by true true true false e = turned BadTrace
+    by true true false w e = turned BadField
+    by true false z w e = turned UnknownVersion
+    by false y z w e = turned BadLength
 
 -- the program writes the first bytes of a buffer that begins with what is printed
 pub printed_inside : (input rest : List ℕ) {n : ℕ} {m : List ℕ} → n ≡ length (printed_of input) → m ≡ printed_of input ++ rest → n ≤ length m
 printed_inside input rest e p = omega (arith, ap length p, length-append (printed_of input) rest)
 
-pub never_short : (input out : List ℕ) → 180191 ≤ length out → trace_of input out ≡ Refused 9 → ⊥
+abbrev answer : ℕ → Bool → Bool → Bool → Bool → Bool → Result ℕ Refusal
+answer n x y z w f =
+    checked (check x BadLength ∷ check y UnknownVersion ∷ check z BadField ∷ check w BadTrace ∷ check f ShortBuffer ∷ []) (Ok n)
+
+pub never_short : (input out : List ℕ) → 180191 ≤ length out → trace_of input out ≡ Err ShortBuffer → ⊥
 unfolding trace_of
 never_short input out l e =
     by (start_holds input) (version_holds (record_part input)) (body_holds (record_part input)) (trace_holds (trace_part input))
     (leb (room_for (trace_part input)) (length out)) (room_there input out l) e
   where
-    by : (x y z w f : Bool) → (w ≡ true → f ≡ true)
-        → cond x (cond y (cond z (cond w (cond f (Size (length (text_of input))) (Refused 9)) (Refused 25)) (Refused 8)) (Refused 7)) (Refused 6) ≡ Refused 9 → ⊥
-    by true true true true true room e = no_size (length (text_of input)) 9 e
+    by : (x y z w f : Bool) → (w ≡ true → f ≡ true) → answer (length (text_of input)) x y z w f ≡ Err ShortBuffer → ⊥
+    by true true true true true room e = cc
     by true true true true false room e = false≢true (room refl)
-    by true true true false f room e = let q = same_number 25 9 e in omega arith
-    by true true false w f room e = let q = same_number 8 9 e in omega arith
-    by true false z w f room e = let q = same_number 7 9 e in omega arith
-    by false y z w f room e = let q = same_number 6 9 e in omega arith
+    by true true true false f room e = cc
+    by true true false w f room e = cc
+    by true false z w f room e = cc
+    by false y z w f room e = cc
 
 -- a size is that of bytes in the lent buffer
-pub size_inside : (input out : List ℕ) (n : ℕ) → trace_of input out ≡ Size n → n ≤ length out
+pub size_inside : (input out : List ℕ) (n : ℕ) → trace_of input out ≡ Ok n → n ≤ length out
 unfolding trace_of
 size_inside input out n e =
     by (start_holds input) (version_holds (record_part input)) (body_holds (record_part input)) (trace_holds (trace_part input))
     (leb (room_for (trace_part input)) (length out)) refl e
   where
-    by : (x y z w f : Bool) → leb (room_for (trace_part input)) (length out) ≡ f
-        → cond x (cond y (cond z (cond w (cond f (Size (length (text_of input))) (Refused 9)) (Refused 25)) (Refused 8)) (Refused 7)) (Refused 6) ≡ Size n → n ≤ length out
-    by true true true true true l e = omega (arith, same_size (length (text_of input)) n e, text_few input, leb-true (room_for (trace_part input)) (length out) l)
-    by true true true true false l e = absurd (no_size n 9 (sym e))
-    by true true true false f l e = absurd (no_size n 25 (sym e))
-    by true true false w f l e = absurd (no_size n 8 (sym e))
-    by true false z w f l e = absurd (no_size n 7 (sym e))
-    by false y z w f l e = absurd (no_size n 6 (sym e))
+    by : (x y z w f : Bool) → leb (room_for (trace_part input)) (length out) ≡ f → answer (length (text_of input)) x y z w f ≡ Ok n → n ≤ length out
+    by true true true true true l e =
+        let q : n ≡ length (text_of input) = cc in
+        omega (arith, text_few input, leb-true (room_for (trace_part input)) (length out) l)
+    by true true true true false l e = absurd (cc)
+    by true true true false f l e = absurd (cc)
+    by true true false w f l e = absurd (cc)
+    by true false z w f l e = absurd (cc)
+    by false y z w f l e = absurd (cc)
 
 -- ---- "any of these refusals is the only line"
-guarded_told : {A : Type 0} (refuse : ℕ → A) (answer : A) (ts : List Test) → guarded ts refuse answer ≡ cond (passes ts) answer (refuse (first_of ts))
-unfolding passes first_of
-guarded_told refuse answer [] = refl
-guarded_told {A} refuse answer (t ∷ ts) = by t.holds (guarded_told refuse answer ts)
+printed_told : (text : List ℕ) (ts : List Check) → printed_by (checked ts (Ok text)) ≡ cond (pass ts) text (refusal_line (first_refused ts))
+unfolding printed_by pass first_refused
+printed_told text [] = refl
+printed_told text (t ∷ ts) = by t.holds (printed_told text ts)
   where
-    by : (b : Bool) → guarded ts refuse answer ≡ cond (passes ts) answer (refuse (first_of ts))
-        → cond b (guarded ts refuse answer) (refuse t.number) ≡ cond (b && passes ts) answer (refuse (cond b (first_of ts) t.number))
+    by : (b : Bool) → printed_by (checked ts (Ok text)) ≡ cond (pass ts) text (refusal_line (first_refused ts))
+        → printed_by (cond b (checked ts (Ok text)) (Err t.refusal)) ≡ cond (b && pass ts) text (refusal_line (cond b (first_refused ts) (number_of t.refusal)))
     by true h = h
     by false h = refl
 
 module _ (input : List ℕ) where
-  pub refused_alone : passes (input_order input) ≡ false → printed_of input ≡ refusal_line (first_of (input_order input))
+  pub refused_alone : pass (input_order input) ≡ false → printed_of input ≡ refusal_line (first_refused (input_order input))
   unfolding printed_of
-  refused_alone h = guarded_told refusal_line (text_of input) (input_order input) ∙ rw h
+  refused_alone h = printed_told (text_of input) (input_order input) ∙ rw h
 
-  pub taken_whole : passes (input_order input) ≡ true → printed_of input ≡ text_of input
+  pub taken_whole : pass (input_order input) ≡ true → printed_of input ≡ text_of input
   unfolding printed_of
-  taken_whole h = guarded_told refusal_line (text_of input) (input_order input) ∙ rw h
+  taken_whole h = printed_told (text_of input) (input_order input) ∙ rw h
 
 -- ---- events that were written are read again
 module _ (es : List Event) where

@@ -8,18 +8,16 @@ use borrow.Author.Tests.{le-leb, lt-leb, leb-true}
 use lib.Dec.{eqb, leb}
 use lib.ListN.{length, get_or, take, drop, length-drop}
 use lib.Seq.{sets}
+use Rattle.std.specs.Prelude.{Option, None, Some, Result, Ok, Err}
+use Rattle.refusal.specs.declared.Refusal.{Refusal}
+use Rattle.refusal.specs.declared.Refusal.TheVariants.{BadTrace, ShortBuffer}
 use Rattle.rule_tree.specs.declared.RuleTree.{RuleTree}
-use Rattle.rule_tree.specs.Grown.{grown_of}
 use Rattle.rule_tree.proofs.Lists.{and_left, and_right}
 use Rattle.wire.specs.Bytes.{number_at}
-use Rattle.record.specs.declared.Saved.{Saved}
-use Rattle.record.specs.declared.Saved.TheVariants.{Size, Refused}
 use Rattle.record.proofs.CallWays.{stored}
 use Rattle.panel_lines.specs.Parts.{Wrote}
 use Rattle.sender.specs.declared.RepeatMode.TheVariants.{Off}
 use Rattle.sender.specs.Sender.{fresh_sender}
-use Rattle.trace_lines.specs.declared.inner.read.Counted.{Counted}
-use Rattle.trace_lines.specs.declared.inner.read.Counted.TheVariants.{Whole, Broken}
 use Rattle.trace_lines.specs.Trace.{events_part, start_of, whole_in_of, events_in, events, trace_holds, lines_from, lines_over, room_for}
 use Rattle.trace_lines.specs.Parts.{counted_of, Tracing, traced_of, traced_after}
 use Rattle.trace_lines.proofs.Events.{lent, events_few}
@@ -46,54 +44,55 @@ room_most bytes h =
     let e = events_few (length (events_part bytes)) (events_part bytes) (and_right (start_of bytes) (whole_in_of (events_part bytes)) q) in
     omega (arith, length-drop 5 bytes)
 
-told_whole : (b : Bool) (k n : ℕ) → cond b (Whole k) Broken ≡ Whole n → (b ≡ true) × (n ≡ k)
-told_whole true k n e = (refl, cc)
-told_whole false k n e = absurd (let z : ◌≡◌ {A = ℕ} 0 1 = cc in omega arith)
-
-told_broken : (b : Bool) (k : ℕ) → cond b (Whole k) Broken ≡ Broken → b ≡ false
-told_broken true k e = absurd (let z : ◌≡◌ {A = ℕ} 0 1 = cc in omega arith)
-told_broken false k e = refl
-
-pub counted_told : (body : List ℕ) (n : ℕ) {r : Counted} → r ≡ counted_of body → r ≡ Whole n → (whole_in_of body ≡ true) × (n ≡ length (events_in body))
+counted_some : (body : List ℕ) (n : ℕ) {r : Option ℕ} → r ≡ counted_of body → r ≡ Some n → (whole_in_of body ≡ true) × (n ≡ length (events_in body))
 unfolding counted_of
-counted_told body n e f = told_whole (whole_in_of body) (length (events_in body)) n (sym e ∙ f)
+counted_some body n e f = by (whole_in_of body) (sym e ∙ f)
+  where
+    by : (b : Bool) → ◌≡◌ {A = Option ℕ} (cond b (Some (length (events_in body))) None) (Some n) → (b ≡ true) × (n ≡ length (events_in body))
+    by true e = (refl, cc)
+    by false e = absurd (cc)
 
-counted_not : (body : List ℕ) {r : Counted} → r ≡ counted_of body → r ≡ Broken → whole_in_of body ≡ false
+counted_none : (body : List ℕ) {r : Option ℕ} → r ≡ counted_of body → r ≡ None → whole_in_of body ≡ false
 unfolding counted_of
-counted_not body e f = told_broken (whole_in_of body) (length (events_in body)) (sym e ∙ f)
+counted_none body e f = by (whole_in_of body) (sym e ∙ f)
+  where
+    by : (b : Bool) → ◌≡◌ {A = Option ℕ} (cond b (Some (length (events_in body))) None) None → b ≡ false
+    by true e = cc
+    by false e = refl
 
 -- ---- what is answered, and the buffer after
-abbrev pub Traced : RuleTree → List ℕ → List ℕ → Saved → List ℕ → Type 0
+abbrev pub Traced : RuleTree → List ℕ → List ℕ → Result ℕ Refusal → List ℕ → Type 0
 Traced t bytes out v r = (v ≡ traced_of t bytes out) × (r ≡ traced_after t bytes out (traced_of t bytes out))
 
 traced_as : (t : RuleTree) (bytes out : List ℕ)
-    → traced_of t bytes out ≡ cond (trace_holds bytes) (cond (leb (room_for bytes) (length out)) (Size (length (lines_over t bytes))) (Refused 9)) (Refused 25)
+    → traced_of t bytes out
+    ≡ cond (trace_holds bytes) (cond (leb (room_for bytes) (length out)) (Ok (length (lines_over t bytes))) (Err ShortBuffer)) (Err BadTrace)
 unfolding traced_of trace_holds
 traced_as t bytes out = refl
 
 module _ (t : RuleTree) (bytes out : List ℕ) where
-  bad : trace_holds bytes ≡ false → Traced t bytes out (Refused 25) out
+  bad : trace_holds bytes ≡ false → Traced t bytes out (Err BadTrace) out
   unfolding traced_after
-  bad h = let e : traced_of t bytes out ≡ Refused 25 = traced_as t bytes out ∙ rw h in (sym e, rw e)
+  bad h = let e : traced_of t bytes out ≡ Err BadTrace = traced_as t bytes out ∙ rw h in (sym e, rw e)
 
-  pub traced_start : start_of bytes ≡ false → Traced t bytes out (Refused 25) out
+  pub traced_start : start_of bytes ≡ false → Traced t bytes out (Err BadTrace) out
   traced_start h = bad (trace_as bytes ∙ rw h)
 
-  module _ (h : start_of bytes ≡ true) {r : Counted} (e : r ≡ counted_of (take (length bytes - 5) (drop 5 bytes))) where
+  module _ (h : start_of bytes ≡ true) {r : Option ℕ} (e : r ≡ counted_of (take (length bytes - 5) (drop 5 bytes))) where
     body_is : take (length bytes - 5) (drop 5 bytes) ≡ events_part bytes
     body_is = lent bytes 5 0
 
     body_few : length (take (length bytes - 5) (drop 5 bytes)) ≤ 32763
     body_few = let b = start_bounds bytes h in omega (arith, ap length body_is, length-drop 5 bytes)
 
-    pub traced_broken : r ≡ Broken → Traced t bytes out (Refused 25) out
+    pub traced_broken : r ≡ None → Traced t bytes out (Err BadTrace) out
     traced_broken f =
-        let w : whole_in_of (events_part bytes) ≡ false = counted_not (events_part bytes) (e ∙ ap counted_of body_is) f in
+        let w : whole_in_of (events_part bytes) ≡ false = counted_none (events_part bytes) (e ∙ ap counted_of body_is) f in
         bad (trace_as bytes ∙ rw (h, w))
 
-    module _ (n : ℕ) (f : r ≡ Whole n) where
+    module _ (n : ℕ) (f : r ≡ Some n) where
       told : (whole_in_of (events_part bytes) ≡ true) × (n ≡ length (events bytes))
-      told = counted_told (events_part bytes) n (e ∙ ap counted_of body_is) f
+      told = counted_some (events_part bytes) n (e ∙ ap counted_of body_is) f
 
       holds : trace_holds bytes ≡ true
       holds = let w = told.0 in trace_as bytes ∙ rw (h, w)
@@ -101,20 +100,20 @@ module _ (t : RuleTree) (bytes out : List ℕ) where
       pub count_most : 11 * n ≤ 180191
       count_most = omega (arith, room_most bytes holds, told.1)
 
-      pub tracing : grown_of t ≡ true → 11 * n ≤ length out → Tracing t (take (length bytes - 5) (drop 5 bytes)) n out
-      tracing g l =
-          let c = counted_told (take (length bytes - 5) (drop 5 bytes)) n e f in
-          record { grown = g; whole = c.0; count = c.1; room = l; few = body_few }
+      pub tracing : 11 * n ≤ length out → Tracing (take (length bytes - 5) (drop 5 bytes)) n out
+      tracing l =
+          let c = counted_some (take (length bytes - 5) (drop 5 bytes)) n e f in
+          record { whole = c.0; count = c.1; room = l; few = body_few }
 
-      pub traced_short : length out < 11 * n → Traced t bytes out (Refused 9) out
+      pub traced_short : length out < 11 * n → Traced t bytes out (Err ShortBuffer) out
       unfolding traced_after
       traced_short l =
           let q = lt-leb (room_for bytes) (length out) (omega (arith, told.1)) in
-          let p : traced_of t bytes out ≡ Refused 9 = traced_as t bytes out ∙ rw (holds, q) in
+          let p : traced_of t bytes out ≡ Err ShortBuffer = traced_as t bytes out ∙ rw (holds, q) in
           (sym p, rw p)
 
       pub traced_taken : {m : List ℕ} {k : ℕ} → 11 * n ≤ length out
-          → Wrote out 0 m k (lines_from t (fresh_sender Off) (events_in (take (length bytes - 5) (drop 5 bytes)))) → Traced t bytes out (Size k) m
+          → Wrote out 0 m k (lines_from t (fresh_sender Off) (events_in (take (length bytes - 5) (drop 5 bytes)))) → Traced t bytes out (Ok k) m
       unfolding traced_after
       traced_taken {m} {k} l w =
           let text : lines_from t (fresh_sender Off) (events_in (take (length bytes - 5) (drop 5 bytes))) ≡ lines_over t bytes =
@@ -122,7 +121,7 @@ module _ (t : RuleTree) (bytes out : List ℕ) where
           let few = lines_few t (fresh_sender Off) (events bytes) (omega arith) in
           let size : k ≡ length (lines_over t bytes) = omega (arith, w.place, ap length text) in
           let q = le-leb (room_for bytes) (length out) (omega (arith, told.1)) in
-          let p : traced_of t bytes out ≡ Size (length (lines_over t bytes)) = traced_as t bytes out ∙ rw (holds, q) in (
-            ap Size size ∙ sym p,
+          let p : traced_of t bytes out ≡ Ok (length (lines_over t bytes)) = traced_as t bytes out ∙ rw (holds, q) in (
+            ap Ok size ∙ sym p,
             rw p (stored out (lines_over t bytes) (omega (arith, told.1)) (w.stored ∙ ap (sets out 0) text)),
           )

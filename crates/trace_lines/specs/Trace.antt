@@ -1,21 +1,19 @@
 -- 02, 3: the sender as a process. A record and then a trace of events, and the lines that they are printed as.
-use Rattle.std.specs.Prelude.{Bool, true, ◌&&◌, ◌||◌, cond, List, [], ◌∷◌, ◌++◌, ℕ, zero, suc, ◌+◌, ◌-◌, ◌*◌, length, drop, get_or, eqb, leb}
-use Rattle.refusal.specs.Numbers.{bad_field, bad_length, bad_trace, short_buffer, unknown_version}
-use Rattle.refusal.specs.Guards.{Test, test, guarded}
+use Rattle.std.specs.Prelude.{Bool, true, ◌&&◌, ◌||◌, cond, List, [], ◌∷◌, ◌++◌, ℕ, zero, suc, ◌+◌, ◌-◌, ◌*◌, length, drop, get_or, eqb, leb, None, Result, Ok, Err}
+use Rattle.refusal.specs.declared.Refusal.{Refusal}
+use Rattle.refusal.specs.declared.Refusal.TheVariants.{BadField, BadLength, BadTrace, ShortBuffer, UnknownVersion}
+use Rattle.refusal.specs.Numbers.{number_of}
+use Rattle.refusal.specs.Guards.{Check, check, checked}
 use Rattle.rule_tree.specs.declared.RuleTree.{RuleTree}
 use Rattle.wire.specs.Bytes.{number_at}
 use Rattle.wire.specs.Fields.{float_at}
-use Rattle.record.specs.declared.Saved.{Saved}
-use Rattle.record.specs.declared.Saved.TheVariants.{Size, Refused}
 use Rattle.record.specs.Calls.{version_holds, body_holds}
 use Rattle.panel_lines.specs.Panel.{decimal, record_part, start_holds, tree_in}
-use Rattle.sender.specs.declared.Draw.TheVariants.{Absent}
 use Rattle.sender.specs.declared.Event.{Event}
 use Rattle.sender.specs.declared.Event.TheVariants.{Ack, Send, Tick}
 use Rattle.sender.specs.declared.RepeatMode.TheVariants.{Off}
 use Rattle.sender.specs.declared.Sender.{Sender}
-use Rattle.sender.specs.declared.Reply.{Reply}
-use Rattle.sender.specs.declared.Reply.TheVariants as reply
+use Rattle.sender.specs.declared.Held.{Held}
 use Rattle.sender.specs.SenderCall.{on}
 use Rattle.sender.specs.Sender.{fresh_sender, replied_to, left_by}
 
@@ -34,7 +32,7 @@ head_holds bytes = kind_holds (get_or bytes 0 0) (get_or bytes 1 0) && leb (size
 
 unfoldable pub event_in : List ℕ → Event
 event_in bytes =
-    cond (eqb (get_or bytes 1 0) 1) (Ack (float_at bytes 2) (float_at bytes 10) Absent)
+    cond (eqb (get_or bytes 1 0) 1) (Ack (record { sent = float_at bytes 2; received = float_at bytes 10; draw = None }))
     (cond (eqb (get_or bytes 1 0) 2) (Send (float_at bytes 2)) Tick)
 
 -- "whole events of these kinds and lengths to its end"; n bounds their number
@@ -86,10 +84,10 @@ line_end b = cond b (32 ∷ 99 ∷ 10 ∷ []) (10 ∷ [])
 abbrev pub window_line : ℕ → Bool → List ℕ
 window_line w clipped = decimal w ++ line_end clipped
 
-unfoldable pub line_of : Reply → List ℕ
+unfoldable pub line_of : Result Held Refusal → List ℕ
 unfolding refusal_line line_end
-line_of (reply.Taken h) = window_line h.window h.clipped
-line_of (reply.Refused k) = refusal_line k
+line_of (Ok h) = window_line h.window h.clipped
+line_of (Err r) = refusal_line (number_of r)
 
 -- "or `refused N` and goes on": each event to the sender that the last one left
 unfoldable pub lines_from : RuleTree → Sender → List Event → List ℕ
@@ -105,30 +103,36 @@ abbrev pub text_of : List ℕ → List ℕ
 text_of input = lines_over (tree_in input) (trace_part input)
 
 -- "refused whole with 25, after the record's 6 to 8, read as in the panel"
-abbrev pub input_order : List ℕ → List Test
+abbrev pub input_order : List ℕ → List Check
 input_order input =
-    test (start_holds input) bad_length ∷ test (version_holds (record_part input)) unknown_version ∷ test (body_holds (record_part input)) bad_field
-    ∷ test (trace_holds (trace_part input)) bad_trace ∷ []
+    check (start_holds input) BadLength ∷ check (version_holds (record_part input)) UnknownVersion ∷ check (body_holds (record_part input)) BadField
+    ∷ check (trace_holds (trace_part input)) BadTrace ∷ []
 
--- every byte that the program prints; "any of these refusals is the only line"
+-- "any of these refusals is the only line"
+unfoldable pub printed_by : Result (List ℕ) Refusal → List ℕ
+unfolding refusal_line
+printed_by (Ok text) = text
+printed_by (Err r) = refusal_line (number_of r)
+
+-- every byte that the program prints
 unfoldable pub printed_of : List ℕ → List ℕ
-unfolding start_holds trace_holds refusal_line lines_from
-printed_of input = guarded (input_order input) refusal_line (text_of input)
+unfolding start_holds trace_holds printed_by lines_from
+printed_of input = printed_by (checked (input_order input) (Ok (text_of input)))
 
--- the call on lent bytes: the same numbers, then 9 for a buffer with fewer than 11 bytes an event, which is a line's most
+-- the call on lent bytes: the same refusals, then 9 for a buffer with fewer than 11 bytes an event, which is a line's most
 abbrev pub room_for : List ℕ → ℕ
 room_for bytes = 11 * length (events bytes)
 
-abbrev pub trace_order : List ℕ → List ℕ → List Test
+abbrev pub trace_order : List ℕ → List ℕ → List Check
 trace_order input out =
-    test (start_holds input) bad_length ∷ test (version_holds (record_part input)) unknown_version ∷ test (body_holds (record_part input)) bad_field
-    ∷ test (trace_holds (trace_part input)) bad_trace ∷ test (leb (room_for (trace_part input)) (length out)) short_buffer ∷ []
+    check (start_holds input) BadLength ∷ check (version_holds (record_part input)) UnknownVersion ∷ check (body_holds (record_part input)) BadField
+    ∷ check (trace_holds (trace_part input)) BadTrace ∷ check (leb (room_for (trace_part input)) (length out)) ShortBuffer ∷ []
 
-unfoldable pub trace_of : List ℕ → List ℕ → Saved
+unfoldable pub trace_of : List ℕ → List ℕ → Result ℕ Refusal
 unfolding start_holds trace_holds
-trace_of input out = guarded (trace_order input out) Refused (Size (length (text_of input)))
+trace_of input out = checked (trace_order input out) (Ok (length (text_of input)))
 
 -- the buffer after: the lines, and then what it held; a refused call changes no byte
-unfoldable pub out_after : List ℕ → List ℕ → Saved → List ℕ
-out_after input out (Size n) = text_of input ++ drop n out
-out_after input out (Refused k) = out
+unfoldable pub out_after : List ℕ → List ℕ → Result ℕ Refusal → List ℕ
+out_after input out (Ok n) = text_of input ++ drop n out
+out_after input out (Err r) = out

@@ -1,36 +1,37 @@
--- `panel_lines::panel` meets its contract. Assumes nothing.
-use Rattle.panel_lines.proofs.Ways as law
-use Rattle.panel_lines.proofs.Nested.{start_fits}
+-- `panel` meets its contract. Assumes nothing.
+use Rattle.std.proofs.Common.{◌≡◌, ◌∙◌, sym, ap, ℕ, take, Ok, Err}
+use Rattle.std.proofs.lemmas.Grind.{common_steps}
 use native.Mathlib.Omega.{arith}
-use mathlib.Core.Path.{sym, ap, ◌∙◌}
-use Prim.Native.Nat.{ℕ}
-use lib.ListN.{take}
+use lib.Seq.{length-take-le}
+use Rattle.refusal.specs.declared.Refusal.TheVariants.{BadLength}
 use Rattle.record.specs.Calls.{load_of}
+use Rattle.panel_lines.specs.Panel.{record_part}
+use Rattle.panel_lines.proofs.Ways as law
 use Rattle.panel_lines.proofs.panel.Goals as goal
 
+pub returns-in_err-n : goal.returns-in_err-n
+returns-in_err-n c =
+    let e : c.from_residual.result ≡ Err BadLength = grind (arith, common_steps) in
+    let w = law.panel_short c.args.input.now c.args.out.now c.in_err-n.ensures.1 in
+    (e ∙ w.0, w.1)
+
 pub slice_bounds-load-end : goal.slice_bounds-load-end
-slice_bounds-load-end c = omega (arith, start_fits c.args.input.now (sym c.start_holds.ensures ∙ c.if-start_holds.true), c.record_size-n.ensures)
+slice_bounds-load-end c = sym (length-take-le c.in_ok-n.n c.args.input.now c.in_ok-n.ensures.2)
+
+pub returns-in_err-t : goal.returns-in_err-t
+returns-in_err-t c =
+    let l : load_of (record_part c.args.input.now) ≡ Err c.in_err-t.field-0.0 =
+    ap (λ (k : ℕ). load_of (take k c.args.input.now)) (sym c.in_ok-n.ensures.1) ∙ sym c.load.ensures ∙ c.in_err-t.was in
+    let e : c.from_residual-in_err-t.result ≡ Err c.in_err-t.field-0.0 = grind (arith, common_steps) in
+    let w = law.panel_refused c.args.input.now c.args.out.now c.in_ok-n.ensures.0 _ l in
+    (e ∙ w.0, w.1)
 
 pub counts_shown-requires : goal.counts_shown-requires
-counts_shown-requires c = law.load_splits _ c.load-a.result c.load-a.ensures c.if-a-eq0.true
-
-pub returns-then-a-eq0 : goal.returns-then-a-eq0
-returns-then-a-eq0 c =
-    let n = c.record_size-n in
-    let a = c.load-a in
-    let h = sym c.start_holds.ensures ∙ c.if-start_holds.true in
-    let e = a.ensures ∙ ap load_of (law.part_first n.result c.args.input.now ∙ ap (λ (k : ℕ). take k c.args.input.now) n.ensures) in
-    law.panel_shown c.args.input.now c.args.out.now h a.result e _
-    (law.part-rest n.result _ c.args.input.now n.ensures) c.if-a-eq0.true c.counts_shown.ensures.0 c.counts_shown.ensures.1
-
-pub returns-then-start_holds : goal.returns-then-start_holds
-returns-then-start_holds c =
-    let n = c.record_size-n in
-    let a = c.load-a in
-    let h = sym c.start_holds.ensures ∙ c.if-start_holds.true in
-    let e = a.ensures ∙ ap load_of (law.part_first n.result c.args.input.now ∙ ap (λ (k : ℕ). take k c.args.input.now) n.ensures) in
-    law.panel_refused c.args.input.now c.args.out.now h a.result e c.if-a-eq0.false
+counts_shown-requires c = law.load_splits _ c.in_ok-t.t (sym c.load.ensures ∙ c.in_ok-t.was)
 
 pub returns : goal.returns
 returns c =
-    law.panel_short c.args.input.now c.args.out.now (sym c.start_holds.ensures ∙ c.if-start_holds.false)
+    let l : load_of (record_part c.args.input.now) ≡ Ok c.in_ok-t.t =
+    ap (λ (k : ℕ). load_of (take k c.args.input.now)) (sym c.in_ok-n.ensures.1) ∙ sym c.load.ensures ∙ c.in_ok-t.was in
+    law.panel_shown c.args.input.now c.args.out.now c.in_ok-n.ensures.0 c.in_ok-t.t _ l
+    (law.part-rest c.in_ok-n.n _ c.args.input.now c.in_ok-n.ensures.1) c.counts_shown.ensures.0 c.counts_shown.ensures.1

@@ -1,22 +1,23 @@
 // The lines, byte by byte. What is not written stays; a function answers the place after what it wrote.
+// By hand, part after part: `write!` needs a writer over the buffer, which answers a Result where there is room for all, and no place.
+// A struct of buffer and place is no plainer: each contract would state both before and after, and each store renew the room that is left.
 ghost use Rattle.std.specs.Prelude.{◌≡◌, ◌+◌, ◌≤◌, length};
 ghost use Rattle.rule_tree.specs.Nodes.{node_count};
 ghost use Rattle.panel_lines.specs.Panel.{decimal, leaf_line, leaf_lines, first_line, lines_of};
 ghost use Rattle.panel_lines.specs.Parts.{Wrote, node_line, listed, Leaves, Lines};
 
 use crate::inner::shares;
+use itoa::Buffer;
 use rule_tree::{Node, RuleTree};
 
+#[tactic(auto, using(crate::proofs::Texts::text_put))]
 pub fn put(buf: &mut [u8], at: usize, text: &[u8]) -> usize
     requires { at + length text.now ≤ length buf.old }
     ensures { Wrote buf.old at buf.new result text.now }
 {
-    let mut i: usize = 0;
-    while i < text.len() {
-        buf[at + i] = text[i];
-        i += 1;
-    }
-    at + i
+    let end = at + text.len();
+    buf[at..end].copy_from_slice(text);
+    end
 }
 
 // x in decimal.
@@ -24,13 +25,8 @@ pub fn put_decimal(buf: &mut [u8], at: usize, x: u64) -> usize
     requires { at + length (decimal x) ≤ length buf.old }
     ensures { Wrote buf.old at buf.new result (decimal x) }
 {
-    if x < 10 {
-        buf[at] = 48 + x as u8;
-        return at + 1;
-    }
-    let last = put_decimal(buf, at, x / 10);
-    buf[last] = 48 + (x % 10) as u8;
-    last + 1
+    let mut digits = Buffer::new();
+    put(buf, at, digits.format(x).as_bytes())
 }
 
 fn put_leaf(buf: &mut [u8], at: usize, i: u64, share: u64) -> usize
@@ -56,16 +52,13 @@ fn put_node(buf: &mut [u8], at: usize, x: Node, i: u64, share: u64) -> usize
 }
 
 // The leaves by rising node; the shares are one a node.
-fn put_leaves(buf: &mut [u8], at: usize, t: RuleTree, shares: &[u64]) -> usize
-    requires { Leaves buf.old at t shares.now }
-    ensures { Wrote buf.old at buf.new result (leaf_lines t.nodes (listed shares.now) (node_count t.splits)) }
+fn put_leaves(buf: &mut [u8], at: usize, t: &RuleTree, shares: &[u64]) -> usize
+    requires { Leaves buf.old at t.now shares.now }
+    ensures { Wrote buf.old at buf.new result (leaf_lines t.now.nodes (listed shares.now) (node_count t.now.splits)) }
 {
     let mut next = at;
-    let mut i: usize = 0;
-    while i < shares.len() {
-        let x = t.nodes[i];
-        next = put_node(buf, next, x, i as u64, shares[i]);
-        i += 1;
+    for (i, share) in shares.iter().enumerate() {
+        next = put_node(buf, next, t.nodes[i], i as u64, *share);
     }
     next
 }
@@ -75,7 +68,7 @@ fn put_first(buf: &mut [u8], s: u16) -> usize
     requires { length (first_line s) ≤ length buf.old }
     ensures { Wrote buf.old 0 buf.new result (first_line s) }
 {
-    let splits = s as u64;
+    let splits = u64::from(s);
     let at = put(buf, 0, b"leaves ");
     let at = put_decimal(buf, at, 1 + 7 * splits);
     let at = put(buf, at, b" splits ");
@@ -85,12 +78,11 @@ fn put_first(buf: &mut [u8], s: u16) -> usize
 }
 
 // The lines of a tree and its counts, whose total is all.
-pub fn put_lines(buf: &mut [u8], t: RuleTree, counts: &[u64], all: u64) -> usize
-    requires { Lines buf.old t counts.now all }
-    ensures { Wrote buf.old 0 buf.new result (lines_of t counts.now) }
+pub fn put_lines(buf: &mut [u8], t: &RuleTree, counts: &[u64], all: u64) -> usize
+    requires { Lines buf.old t.now counts.now all }
+    ensures { Wrote buf.old 0 buf.new result (lines_of t.now counts.now) }
 {
-    let n = counts.len();
     let shares = shares::shares_of(counts, all);
     let at = put_first(buf, t.splits);
-    put_leaves(buf, at, t, &shares[0..n])
+    put_leaves(buf, at, t, &shares[..counts.len()])
 }

@@ -1,11 +1,14 @@
-// The lines, byte by byte. What is not written stays; a function answers the place after what it wrote.
+// The lines, byte by byte, by panel_lines' functions and for the reasons that stand there. What is not written stays; a function answers
+// the place after what it wrote.
 ghost use Rattle.std.specs.Prelude.{◌≡◌, ◌+◌, ◌≤◌, length};
 ghost use Rattle.panel_lines.specs.Parts.{Wrote};
 ghost use Rattle.trace_lines.specs.Trace.{refusal_line, window_line, line_of};
 
 use panel_lines::inner::write::{put, put_decimal};
-use sender::Reply;
+use refusal::Refusal;
+use sender::Held;
 
+#[tactic(auto, using(crate::proofs::Lines::refusal_count))]
 pub fn put_refusal(buf: &mut [u8], at: usize, k: u32) -> usize
     requires { at + length (refusal_line k) ≤ length buf.old }
     ensures { Wrote buf.old at buf.new result (refusal_line k) }
@@ -15,6 +18,7 @@ pub fn put_refusal(buf: &mut [u8], at: usize, k: u32) -> usize
     put(buf, end, b"\n")
 }
 
+#[tactic(auto, using(crate::proofs::Lines::window_count), unfolding(crate::specs::Trace::line_end))]
 fn put_window(buf: &mut [u8], at: usize, window: u32, clipped: bool) -> usize
     requires { at + length (window_line window clipped) ≤ length buf.old }
     ensures { Wrote buf.old at buf.new result (window_line window clipped) }
@@ -28,12 +32,13 @@ fn put_window(buf: &mut [u8], at: usize, window: u32, clipped: bool) -> usize
 }
 
 // The line of an event's reply.
-pub fn put_line(buf: &mut [u8], at: usize, reply: Reply) -> usize
+#[tactic(auto, unfolding(crate::specs::Trace::line_of))]
+pub fn put_line(buf: &mut [u8], at: usize, reply: Result<Held, Refusal>) -> usize
     requires { at + length (line_of reply) ≤ length buf.old }
     ensures { Wrote buf.old at buf.new result (line_of reply) }
 {
     match reply {
-        Reply::Taken(h) => put_window(buf, at, h.window, h.clipped),
-        Reply::Refused(k) => put_refusal(buf, at, k),
+        Ok(h) => put_window(buf, at, h.window, h.clipped),
+        Err(refused) => put_refusal(buf, at, refused.number()),
     }
 }

@@ -1,17 +1,6 @@
 -- `put_window` writes the window and the line's end, by the flag. Assumes nothing.
-use mathlib.Core.Path.{ap}
-use native.Mathlib.Omega.{arith}
-use lib.ListN.{length}
 use Rattle.trace_lines.proofs.Lines as law
 use Rattle.trace_lines.proofs.inner.write.put_window.Goals as goal
-
-pub put-requires : goal.put-requires
-put-requires c =
-    omega (arith, c.requires, law.window_count c.args.window c.args.clipped, ap length (law.end_clipped c.args.clipped c.if-clipped.true), c.put_decimal-end.ensures.place, c.put_decimal-end.auto.buf)
-
-pub put-requires-else-clipped : goal.put-requires-else-clipped
-put-requires-else-clipped c =
-    omega (arith, c.requires, law.window_count c.args.window c.args.clipped, ap length (law.end-plain c.args.clipped c.if-clipped.false), c.put_decimal-end.ensures.place, c.put_decimal-end.auto.buf)
 
 pub returns-then-clipped : goal.returns-then-clipped
 returns-then-clipped c =
