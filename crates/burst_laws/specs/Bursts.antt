@@ -1,5 +1,8 @@
 -- 02, request 1: a burst beside the plain sender's reactions to the same acks, one by one over the whole list.
-use Rattle.std.specs.Prelude.{◌≡◌, cond, List, [], ◌∷◌, map, ℕ, eqb, length, take}
+use Rattle.std.specs.Prelude.{◌≡◌, cond, List, [], ◌∷◌, map, ℕ, eqb, length, take, Option}
+use Rattle.std.specs.Option.{option_map, unwrap_or}
+use Rattle.refusal.specs.declared.Refusal.{Refusal}
+use Rattle.refusal.specs.Numbers.{number_of}
 use Rattle.rule_tree.specs.declared.RuleTree.{RuleTree}
 use Rattle.sender.specs.declared.Ack.{Ack}
 use Rattle.sender.specs.declared.Sender.{Sender}
@@ -26,6 +29,10 @@ unfoldable pub first_refusal : List SenderEvent → ℕ
 first_refusal [] = 0
 first_refusal (e ∷ es) = cond (eqb e.refused 0) (first_refusal es) e.refused
 
+-- the same of the refusal that ended a course, if any
+abbrev pub number_or_0 : Option Refusal → ℕ
+number_or_0 r = unwrap_or (option_map number_of r) 0
+
 abbrev pub windows_of : List SenderEvent → List ℕ
 windows_of es = map (λ (e : SenderEvent). e.window) es
 
@@ -40,5 +47,5 @@ plain_reactions u s xs = plain_sender_events (plain_start s) (ack_calls u xs)
 pub record BurstHolds (t : RuleTree) (u : Tree) (s : Sender) (xs : List Ack) : Type 0 where
   pub windows : (course_of t s xs).windows ≡ windows_of (until_refused (plain_reactions u s xs))
   pub flags : (course_of t s xs).flags ≡ flags_of (until_refused (plain_reactions u s xs))
-  pub stopped : (course_of t s xs).stopped ≡ first_refusal (plain_reactions u s xs)
+  pub stopped : number_or_0 (course_of t s xs).stopped ≡ first_refusal (plain_reactions u s xs)
   pub sender : (course_of t s xs).sender ≡ state_of (plain_sender_end (plain_start s) (take (length (course_of t s xs).windows) (ack_calls u xs)))

@@ -5,19 +5,20 @@ use mathlib.Core.Logic.{inl, inr}
 use lib.Dec.{T}
 use lib.Ieee.{Float, nan, inf, fin, binary64, le, lt, fits}
 use lib.Ieee.Fits.{and_l, and_r, and_i}
+use Rattle.std.specs.Prelude.{Option, Some, None}
 use Rattle.floats.specs.Average.{average}
 use Rattle.floats.specs.Interval.{within}
 use Rattle.floats.proofs.Order.{le_nn_r, le_self, le-or-lt, le_le_trans, le_lt_trans, lt_le_trans, lt→le}
-use Rattle.floats.proofs.Zero.{0f, Some}
+use Rattle.floats.proofs.Zero.{0f}
+use Rattle.floats.proofs.Zero as zeros
 use Rattle.floats.proofs.Average.{least, average_le, average_some}
+use Rattle.quantities.specs.declared.TimeSpan.{TimeSpan}
 use Rattle.quantities.specs.Time.{span}
-use Rattle.sender.specs.declared.Average.{Average}
-use Rattle.sender.specs.declared.Average.TheVariants.{Empty, Of}
 use Rattle.sender.specs.Memory.{averaged, value_of}
 use Rattle.chart_laws.proofs.Quotient.{1f}
 
 -- ---- 0 or more, and below something
-pub below_some : (z end : Float) → T (le 0f z) → T (lt z end) → Some z
+pub below_some : (z end : Float) → T (le 0f z) → T (lt z end) → zeros.Some z
 unfolding le lt
 below_some nan end h k = absurd h
 below_some (inf true) end h k = absurd h
@@ -40,7 +41,7 @@ least_one : T (lt least 1f)
 unfolding lt
 least_one = tt
 
-bound_some : {end p : Float} → Bound end p → Some p
+bound_some : {end p : Float} → Bound end p → zeros.Some p
 bound_some {end} {p} b = below_some p end (le_le_trans 0f least p zero_least b.large) b.below
 
 least_fits : T (fits binary64 least)
@@ -79,7 +80,7 @@ raise end p g b f h k =
 pub record Under (end a : Float) : Type 0 where
   pub bound : Float
   pub is : Bound end bound
-  pub some : Some a
+  pub some : zeros.Some a
   pub least : T (le a bound)
 
 module _ (end : Float) (one : T (le 1f end)) where
@@ -112,9 +113,9 @@ module _ (end : Float) (one : T (le 1f end)) where
   under_within a u = and_i (le 0f a) (lt a end) u.some.min (le_lt_trans a u.bound end u.least u.is.below)
 
 -- ---- the same of a sender's average
-abbrev pub Kept : Float → Average → Type 0
-Kept end Empty = T true
-Kept end (Of a) = Under end a.0
+abbrev pub Kept : Float → Option TimeSpan → Type 0
+Kept end None = T true
+Kept end (Some a) = Under end a.0
 
 zero_one : T (lt 0f 1f)
 unfolding lt
@@ -125,12 +126,12 @@ unfolding le
 zero_zero = tt
 
 module _ (end : Float) (one : T (le 1f end)) where
-  pub kept_next : (a : Average) (g : Float) → Kept end a → T (fits binary64 g) → T (within 0f end g) → Kept end (averaged a (span g))
+  pub kept_next : (a : Option TimeSpan) (g : Float) → Kept end a → T (fits binary64 g) → T (within 0f end g) → Kept end (averaged a (span g))
   unfolding averaged
-  kept_next Empty g u f w = under_first end one g f w
-  kept_next (Of a) g u f w = under_next end one a.0 g u f w
+  kept_next None g u f w = under_first end one g f w
+  kept_next (Some a) g u f w = under_next end one a.0 g u f w
 
-  pub kept_within : (a : Average) → Kept end a → T (within 0f end (value_of a))
+  pub kept_within : (a : Option TimeSpan) → Kept end a → T (within 0f end (value_of a))
   unfolding value_of
-  kept_within Empty u = and_i (le 0f 0f) (lt 0f end) zero_zero (lt_le_trans 0f 1f end zero_one one)
-  kept_within (Of a) u = under_within end one a.0 u
+  kept_within None u = and_i (le 0f 0f) (lt 0f end) zero_zero (lt_le_trans 0f 1f end zero_one one)
+  kept_within (Some a) u = under_within end one a.0 u

@@ -1,11 +1,14 @@
 -- As demand 3's lists have it: no ack of a list that stays on the chart is refused, by the public calls and by the plain sender, over all upper ends.
 -- Assumes nothing.
 use mathlib.Core.Path.{◌≡◌, refl, sym, ap, subst}
-use mathlib.Core.Bool.{true, false}
+use mathlib.Core.Bool.{true}
 use mathlib.Core.List.{List, [], ◌∷◌, map}
 use lib.Dec.{T}
 use lib.Ieee.{binary64, div, le, lt}
 use lib.Ieee.Fits.{and_l}
+use Rattle.std.specs.Prelude.{Result, Ok}
+use Rattle.std.proofs.lemmas.Bool.{false≢true}
+use Rattle.refusal.specs.declared.Refusal.{Refusal}
 use Rattle.floats.proofs.Order.{lt→¬le, le_self, lt_nn_r, lt_le_trans}
 use Rattle.floats.proofs.Zero.{0f}
 use Rattle.remy.specs.declared.point.Point.{Point}
@@ -14,13 +17,10 @@ use Rattle.rule_tree.specs.declared.RuleTree.{RuleTree}
 use Rattle.sender.specs.declared.RepeatMode.TheVariants.{Off}
 use Rattle.sender.specs.declared.Sender.{Sender}
 use Rattle.sender.specs.declared.Held.{Held}
-use Rattle.sender.specs.declared.Reply.{Reply}
-use Rattle.sender.specs.declared.Reply.TheVariants.{Taken}
 use Rattle.sender.specs.Sender.{fresh_sender, ack_of, send_of, tick_of}
 use Rattle.sender.specs.SenderCall.{SenderCall, ack, send, tick, over}
 use Rattle.promise.specs.PlainTree.{Tree}
 use Rattle.promise.specs.SenderRuns.{SenderEvent, SenderStep, taken, after_reply, sender_step, sender_events, plain_start, plain_sender_events}
-use Rattle.promise.proofs.Links.{no}
 use Rattle.promise.proofs.Embed.{embed_tree, ValidTree}
 use Rattle.promise.proofs.TreeGrown.{grown_embeds}
 use Rattle.promise.proofs.SenderRun.{Over, embed_calls, sender_agrees}
@@ -29,7 +29,7 @@ use Rattle.chart_laws.proofs.Quotient.{1f, quotient_one}
 use Rattle.chart_laws.proofs.Taking.{acks_taken}
 
 -- ---- the public calls
-step_taken : (s : Sender) (r : Reply) (h : Held) → r ≡ Taken h → after_reply s r ≡ taken h
+step_taken : (s : Sender) (r : Result Held Refusal) (h : Held) → r ≡ Ok h → after_reply s r ≡ taken h
 unfolding after_reply
 step_taken s r h e = ap (after_reply s) e
 
@@ -40,8 +40,8 @@ none_from (ack t sent received draw ∷ cs) s a =
     let e = step_taken s (ack_of t s sent received draw) a.0 a.1 in
     subst (λ (o : SenderStep). NoAckRefused (ack t sent received draw ∷ cs) (o.event ∷ sender_events o.sender cs)) (sym e)
     (λ z. refl, none_from cs a.0.sender a.2)
-none_from (send at ∷ cs) s a = (λ z. absurd (no false z refl), none_from cs (after_reply s (send_of s at)).sender a)
-none_from (tick ∷ cs) s a = (λ z. absurd (no false z refl), none_from cs (tick_of s).sender a)
+none_from (send at ∷ cs) s a = (λ z. absurd (false≢true z), none_from cs (after_reply s (send_of s at)).sender a)
+none_from (tick ∷ cs) s a = (λ z. absurd (false≢true z), none_from cs (tick_of s).sender a)
 
 pub public_stays : (ends : Point) (cs : List (SenderCall RuleTree)) → AcksOver (GrownWith ends) cs → OnChart ends (ack_times cs)
     → NoAckRefused cs (sender_events (fresh_sender Off) cs)

@@ -1,11 +1,12 @@
 -- What is known of the ends of a tree, of the box that they make, and of the shorter of two round trips. Assumes nothing.
 use mathlib.Core.Path.{◌≡◌}
-use mathlib.Core.Bool.{Bool, true, false, ◌&&◌, cond}
+use mathlib.Core.Bool.{true, ◌&&◌}
 use lib.Dec.{T}
 use lib.Ieee.{Float, le, lt, eq}
 use lib.Ieee.Bits.{is_true}
 use lib.Ieee.Fits.{and_l, and_r, and_i}
 use denote.Floats.{passes}
+use Rattle.refusal.proofs.Guards.{either}
 use Rattle.floats.specs.Interval.{within}
 use Rattle.floats.proofs.Order.{or_r, lt_le_trans}
 use Rattle.floats.proofs.Zero.{0f}
@@ -45,8 +46,4 @@ module _ (ends : Point) (t : RuleTree) (c : GrownWith ends t) where
       (wider (send ends) (send e) (send p) (and_l S R k) s) (wider (ratio ends) (ratio e) (ratio p) (and_r S R k) r)))
 
 pub shorter_above : (m y : Float) → T (lt 0f m) → T (lt 0f y) → T (lt 0f (shorter_of m y))
-shorter_above m y p q = go (lt y m)
-  where
-    go : (b : Bool) → T (lt 0f (cond b y m))
-    go true = q
-    go false = p
+shorter_above m y p q = either (λ (z : Float). T (lt 0f z)) (lt y m) q p

@@ -8,10 +8,11 @@ use lib.IntN.{pos, negsuc}
 use lib.Dec.{T}
 use lib.Ieee.{Float, fin, binary64, add, sub, mul, div, le, lt, eq, neg}
 use lib.Ieee.Fits.{and_i}
+use Rattle.std.specs.Prelude.{None, Ok, Err}
 use Rattle.floats.specs.Interval.{within}
 use Rattle.floats.proofs.Order.{lt_le_trans}
 use Rattle.floats.proofs.Zero.{0f}
-use Rattle.refusal.specs.Numbers.{no_rule, not_admitted}
+use Rattle.refusal.specs.declared.Refusal.TheVariants.{NoRule, NotAdmitted}
 use Rattle.quantities.specs.Time.{admit_of}
 use Rattle.remy.specs.declared.action.Action.{Action}
 use Rattle.remy.specs.Action.{valid_of}
@@ -25,9 +26,7 @@ use Rattle.rule_tree.specs.Calls.{found_in}
 use Rattle.rule_tree.proofs.Plain.{ends_admitted_lem}
 use Rattle.rule_tree.proofs.Changing.{fresh_grown, usual_ends_lem}
 use Rattle.sender.specs.declared.RepeatMode.TheVariants.{Off}
-use Rattle.sender.specs.declared.Draw.TheVariants.{Absent}
 use Rattle.sender.specs.declared.Held.{Held}
-use Rattle.sender.specs.declared.Reply.TheVariants.{Taken, Refused}
 use Rattle.sender.specs.Memory.{averaged, average_next, rtt_next, value_of, ratio_now}
 use Rattle.sender.specs.Acks.{drawn, ack_drawn, ack_with, ack_pending, ack_admitted}
 use Rattle.sender.specs.Sender.{fresh_sender, ack_of}
@@ -46,7 +45,7 @@ at sent received = record { sent = sent; received = received }
 -- acks at three times, over one tree
 abbrev acks_at : RuleTree → Times → Times → Times → List (SenderCall RuleTree)
 acks_at t x y z =
-    call.ack t x.sent x.received Absent ∷ call.ack t y.sent y.received Absent ∷ call.ack t z.sent z.received Absent ∷ []
+    call.ack t x.sent x.received None ∷ call.ack t y.sent y.received None ∷ call.ack t z.sent z.received None ∷ []
 
 fresh_with : (ends : Point) (a : Action) → valid_of a ≡ true → ends_hold ends ≡ true → GrownWith ends (fresh_tree ends a)
 fresh_with ends a v h = record { grown = fresh_grown ends a v h; same = ends_themselves ends (ends_admitted_lem ends h) }
@@ -111,14 +110,14 @@ tests_of ends xs =
 abbrev Strays : RuleTree → Times → Times → List Bool → Type 0
 Strays t x y tests =
     (tests_of usual_ends (x ∷ y ∷ []) ≡ tests)
-    × ((h : Held) × (ack_of t (fresh_sender Off) x.sent x.received Absent ≡ Taken h)
-    × (ack_of t h.sender y.sent y.received Absent ≡ Refused no_rule))
+    × ((h : Held) × (ack_of t (fresh_sender Off) x.sent x.received None ≡ Ok h)
+    × (ack_of t h.sender y.sent y.received None ≡ Err NoRule))
 
 pub record Needed (t : RuleTree) : Type 0 where
   -- a moment of 2 ^ 33 s is refused with 1
   pub unread :
       (tests_of usual_ends (at (whole 0 0) (whole 1 33) ∷ []) ≡ false ∷ true ∷ true ∷ true ∷ true ∷ [])
-      × (ack_of t (fresh_sender Off) (whole 0 0) (whole 1 33) Absent ≡ Refused not_admitted)
+      × (ack_of t (fresh_sender Off) (whole 0 0) (whole 1 33) None ≡ Err NotAdmitted)
   -- a gap of 600 s, the end itself, and one of -1 s, between acks
   pub ack_gap : Strays t (at (whole 0 0) (whole 1 0)) (at (whole 1 0) (whole 601 0)) (true ∷ false ∷ true ∷ true ∷ true ∷ [])
   pub ack_back : Strays t (at (whole 0 0) (whole 1 1)) (at (whole 0 0) (whole 1 0)) (true ∷ false ∷ true ∷ true ∷ true ∷ [])

@@ -7,16 +7,14 @@ use lib.Dec.{T}
 use lib.Ieee.{Float, binary64, sub, div, le, lt, fits}
 use lib.Ieee.Bits.{is_true}
 use lib.Ieee.Fits.{and_l, and_r, and_i, sub-fits}
+use Rattle.std.specs.Prelude.{Option, Some, None}
 use Rattle.floats.specs.Interval.{within}
 use Rattle.floats.proofs.Zero.{0f}
+use Rattle.quantities.specs.declared.TimeSpan.{TimeSpan}
 use Rattle.quantities.specs.Time.{span, moment}
 use Rattle.remy.specs.declared.point.Point.{Point}
 use Rattle.remy.specs.Cube.{ack, send, ratio, ends_admitted, root_of, contains_of}
 use Rattle.remy.proofs.Ends.{ends_from_one}
-use Rattle.sender.specs.declared.Moment.TheVariants.{At, Never}
-use Rattle.sender.specs.declared.Average.{Average}
-use Rattle.sender.specs.declared.Average.TheVariants.{Empty, Of}
-use Rattle.sender.specs.declared.Rtt.TheVariants.{Known, Unknown}
 use Rattle.sender.specs.declared.RepeatMode.TheVariants.{Off}
 use Rattle.sender.specs.Memory.{value_of}
 use Rattle.sender.specs.Sender.{fresh_sender}
@@ -28,17 +26,17 @@ use Rattle.chart_laws.proofs.Ends.{shorter_above}
 
 -- ---- the averages
 module _ (end : Float) (one : T (le 1f end)) where
-  kept_blend : (a : Average) (g : Float) → Kept end a → T (fits binary64 g) → T (within 0f end g) → Kept end (blend a g)
+  kept_blend : (a : Option TimeSpan) (g : Float) → Kept end a → T (fits binary64 g) → T (within 0f end g) → Kept end (blend a g)
   unfolding blend
-  kept_blend Empty g u f w = under_first end one g f w
-  kept_blend (Of a) g u f w = under_next end one a.0 g u f w
+  kept_blend None g u f w = under_first end one g f w
+  kept_blend (Some a) g u f w = under_next end one a.0 g u f w
 
-  amount_within : (a : Average) → Kept end a → T (within 0f end (amount a))
+  amount_within : (a : Option TimeSpan) → Kept end a → T (within 0f end (amount a))
   unfolding amount value_of
-  amount_within Empty u = kept_within end one Empty u
-  amount_within (Of a) u = under_within end one a.0 u
+  amount_within None u = kept_within end one None u
+  amount_within (Some a) u = under_within end one a.0 u
 
-  kept_after : (ms : List Float) (a : Average) (l : Float) → Kept end a → T (gaps_after end l ms) → Kept end (average_after a (At (moment l)) ms)
+  kept_after : (ms : List Float) (a : Option TimeSpan) (l : Float) → Kept end a → T (gaps_after end l ms) → Kept end (average_after a (Some (moment l)) ms)
   unfolding average_after gaps_after
   kept_after [] a l u h = u
   kept_after (m ∷ ms) a l u h =
@@ -47,14 +45,14 @@ module _ (end : Float) (one : T (le 1f end)) where
       kept_after ms (blend a (sub binary64 m l)) m (kept_blend a (sub binary64 m l) u (sub-fits binary64 m l) (and_l W R h)) (and_r W R h)
 
   -- "none counts as 0"
-  average_inside : (m : Float) (ms : List Float) → T (gaps_hold end (m ∷ ms)) → T (within 0f end (amount (average_after Empty Never (m ∷ ms))))
+  average_inside : (m : Float) (ms : List Float) → T (gaps_hold end (m ∷ ms)) → T (within 0f end (amount (average_after None None (m ∷ ms))))
   unfolding average_after gaps_hold
-  average_inside m ms h = amount_within (average_after Empty (At (moment m)) ms) (kept_after ms Empty m tt h)
+  average_inside m ms h = amount_within (average_after None (Some (moment m)) ms) (kept_after ms None m tt h)
 
 -- ---- the ratio
 module _ (end : Float) where
   ratio_after : (rs : List Float) (m r : Float) → T (lt 0f m) → T (lt 0f r) → T (lt (div binary64 r m) end) → T (all_above rs)
-      → T (ratios_after end m rs) → T (within 0f end (ratio_of (trips_after (Known (span m) (span r)) rs)))
+      → T (ratios_after end m rs) → T (within 0f end (ratio_of (trips_after (Some (record { shortest = span m; current = span r })) rs)))
   unfolding trips_after shorter ratio_of all_above ratios_after
   ratio_after [] m r p q h a b = and_i (le 0f (div binary64 r m)) (lt (div binary64 r m) end) (quotient_min r m end q p h) h
   ratio_after (y ∷ rs) m r p q h a b =
@@ -64,7 +62,7 @@ module _ (end : Float) where
       let B' = ratios_after end (shorter_of m y) rs in
       ratio_after rs (shorter_of m y) y (shorter_above m y p (and_l A A' a)) (and_l A A' a) (and_l B B' b) (and_r A A' a) (and_r B B' b)
 
-  ratio_inside : (r : Float) (rs : List Float) → T (all_above (r ∷ rs)) → T (ratios_hold end (r ∷ rs)) → T (within 0f end (ratio_of (trips_after Unknown (r ∷ rs))))
+  ratio_inside : (r : Float) (rs : List Float) → T (all_above (r ∷ rs)) → T (ratios_hold end (r ∷ rs)) → T (within 0f end (ratio_of (trips_after None (r ∷ rs))))
   unfolding trips_after shorter all_above ratios_hold
   ratio_inside r rs a b =
       let p = and_l (lt 0f r) (all_above rs) a in

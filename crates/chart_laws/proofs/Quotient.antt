@@ -11,7 +11,7 @@ use lib.Dec.{T, eqb, ltb→lt}
 use lib.Ieee.{Float, nan, inf, fin, Format, binary64, up, down, round, div, le, lt, is_nan}
 use lib.Ieee.Fits.{up_pos, down_pos}
 use lib.Ieee.Order.{round_mono}
-use Rattle.floats.proofs.Order.{leq→Le, lt_nn_l}
+use Rattle.floats.proofs.Order.{no_more, lt_nn_l}
 use Rattle.floats.proofs.Nonneg.{plus, round_plus, le→cross}
 use Rattle.floats.proofs.Zero.{0f, plus_min}
 
@@ -102,7 +102,7 @@ quotient_one (fin s m e) nan end p h t = absurd p
 quotient_one (fin s m e) (inf true) end p h t = absurd p
 quotient_one (fin s m e) (inf false) end p h t = absurd h
 quotient_one (fin s m e) (fin true k d) end p h t = absurd p
-quotient_one (fin true m e) (fin false k d) end p h t = absurd (none (k * up d * down e) (m * up e * down d) (below p) (leq→Le false (k * up d * down e) true (m * up e * down d) h))
+quotient_one (fin true m e) (fin false k d) end p h t = absurd (none (k * up d * down e) (m * up e * down d) (below p) (no_more (k * up d * down e) (m * up e * down d) h))
   where
     below : T (lt 0f (fin false k d)) → 0 < k * up d * down e
     below q = mul-pos (mul-pos (above_num k d q) (up_pos d)) (down_pos e)

@@ -1,5 +1,5 @@
 -- 02, request 9: lists of acks whose moments keep a sender on its chart, and what is claimed of them.
-use Rattle.std.specs.Prelude.{◌≡◌, Bool, true, false, ◌&&◌, cond, List, [], ◌∷◌, map, T, Float}
+use Rattle.std.specs.Prelude.{◌≡◌, Bool, true, false, ◌&&◌, cond, List, [], ◌∷◌, map, T, Float, Ok}
 use Rattle.std.specs.Float.{binary64}
 use Rattle.std.specs.Float.Ieee.{sub, div, lt}
 use Rattle.floats.specs.Interval.{within}
@@ -12,7 +12,6 @@ use Rattle.rule_tree.specs.Grown.{grown_of}
 use Rattle.sender.specs.declared.Ack.{Ack}
 use Rattle.sender.specs.declared.Sender.{Sender}
 use Rattle.sender.specs.declared.Held.{Held}
-use Rattle.sender.specs.declared.Reply.TheVariants.{Taken}
 use Rattle.sender.specs.Sender.{ack_of, send_of, tick_of}
 use Rattle.sender.specs.SenderCall.{SenderCall, ack, send, tick}
 use Rattle.promise.specs.SenderRuns.{SenderEvent, after_reply}
@@ -103,7 +102,7 @@ pub record GrownWith (ends : Point) (t : RuleTree) : Type 0 where
 -- ---- "no ack in the list is refused with 22": each is taken, each call getting the sender that the last one left
 abbrev pub AcksTaken : Sender → List (SenderCall RuleTree) → Type 0
 AcksTaken s [] = T true
-AcksTaken s (ack t sent received draw ∷ cs) = (h : Held) × (ack_of t s sent received draw ≡ Taken h) × AcksTaken h.sender cs
+AcksTaken s (ack t sent received draw ∷ cs) = (h : Held) × (ack_of t s sent received draw ≡ Ok h) × AcksTaken h.sender cs
 AcksTaken s (send at ∷ cs) = AcksTaken (after_reply s (send_of s at)).sender cs
 AcksTaken s (tick ∷ cs) = AcksTaken (tick_of s).sender cs
 

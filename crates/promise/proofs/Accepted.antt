@@ -7,6 +7,7 @@ use borrow.Author.Tests.{lt-ltb, le-leb, eq-eqb, ne_eqb}
 use lib.Dec.{eqb, ltb, leb}
 use lib.ListN.{length}
 use lib.Ieee.{Float, to_bits}
+use Rattle.std.specs.Prelude.{Some, None}
 use Rattle.remy.specs.Cube as cube
 use Rattle.remy.specs.Cube.{point_equal}
 use Rattle.remy.proofs.Ends.{ends_themselves}
@@ -24,7 +25,7 @@ use Rattle.trainer.specs.Candidates.{candidates_of}
 use Rattle.trainer.specs.State.{none, stand, untried_in, idle, leaf_action, leaf_holds, kept_in, try_holds_of, splitting, tuning, ending, box_holds, phase_holds, accepted_of}
 use Rattle.trainer.proofs.AcceptWays.{accepted_is, phase_is}
 use Rattle.promise.specs.PlainTree.{Tree, rule_at}
-use Rattle.promise.specs.PlainTrainer.{State, Phase, Kept, nothing, just, phase1, phase2, phase3, phase4, phase5, phase6, phase7, kept_number, kept_score_of}
+use Rattle.promise.specs.PlainTrainer.{State, Phase, Kept, phase1, phase2, phase3, phase4, phase5, phase6, phase7, kept_number, kept_score_of}
 use Rattle.promise.proofs.Embed.{embed_tree, ValidTree}
 use Rattle.promise.proofs.TreeKeeps.{leaf_embeds, leaf_node_lem}
 use Rattle.promise.proofs.TreeGrown.{grown_embeds}
@@ -63,9 +64,9 @@ try_holds x l h = and_both (ltb x.k (length (candidates_of x.settings (leaf_acti
 
 kept_holds_lem : (best : Float) (k : ℕ) (kept : Kept) → k < 4096 → KeptHolds best k kept → kept_in best k (kept_number kept) (kept_score_of kept) ≡ true
 unfolding kept_in kept_number kept_score_of to_bits
-kept_holds_lem best k nothing l h = refl
-kept_holds_lem best k (just j y) l h =
-    let e : eqb j none ≡ false = ne_eqb j none (λ z. absurd (omega (arith, h.0))) in
+kept_holds_lem best k None l h = refl
+kept_holds_lem best k (Some (j, y)) l h =
+    let e : eqb j none ≡ false = ne_eqb j none (λ z. omega (arith, h.0)) in
     rw (e, lt-ltb j k h.0) h.1
 
 -- ---- each phase

@@ -1,39 +1,37 @@
 -- New settings do to the trainer what they do to the plain trainer, and leave it in a valid state. Assumes nothing.
 use mathlib.Core.Path.{◌≡◌, refl, sym, ap, subst, ◌∙◌}
-use mathlib.Core.Bool.{Bool, true, false, ◌&&◌, cond}
+use mathlib.Core.Bool.{Bool, true, false, cond}
 use Prim.Native.Nat.{ℕ, ◌≤◌}
-use native.Mathlib.Omega.{arith}
 use borrow.Author.Tests.{leb-true, ltb-true}
 use lib.Dec.{leb, ltb}
+use Rattle.std.specs.Prelude.{Result, Ok, Err}
+use Rattle.std.proofs.lemmas.Bool.{false≢true, and_parts}
+use Rattle.refusal.specs.declared.Refusal.{Refusal}
+use Rattle.refusal.specs.declared.Refusal.TheVariants.{BadSettings, UnfitSettings}
+use Rattle.refusal.specs.Numbers.{number_of}
+use Rattle.refusal.proofs.Guards.{both}
 use Rattle.remy.specs.Cube.{point_equal}
 use Rattle.rule_tree.proofs.Plain.{PointFits, ends_same}
-use Rattle.rule_tree.proofs.Counting.{and_left, and_right}
 use Rattle.trainer.specs.declared.settings.Settings.{Settings}
 use Rattle.trainer.specs.declared.Trainer.{Trainer}
 use Rattle.trainer.specs.Settings.{settings_hold}
 use Rattle.trainer.specs.State.{accepted_of}
-use Rattle.trainer.specs.Phases as layer
 use Rattle.trainer.specs.Change.{phase_fits, round_fits, settings_fit, changed_to, change_of}
 use Rattle.trainer.proofs.Holds.{parts}
 use Rattle.promise.specs.PlainSettings.{settings_taken}
 use Rattle.promise.specs.PlainTree.{Tree}
-use Rattle.promise.specs.PlainTrainer.{State, Phase, phase1, phase2, phase3, phase4, phase5, phase6, phase7, at, become, refuse, same_ends_of, goes_on_of, taken, phase_after, changed}
+use Rattle.promise.specs.PlainTrainer.{State, Outcome, Phase, phase1, phase2, phase3, phase4, phase5, phase6, phase7, at, become, refuse, same_ends_of, goes_on_of, taken, phase_after, changed}
+use Rattle.promise.specs.Demand3.{after_call}
 use Rattle.promise.proofs.Embed.{embed_tree}
 use Rattle.promise.proofs.PlainSettings.{settings_same}
 use Rattle.promise.proofs.Accepted.{accepted_embeds}
-use Rattle.promise.proofs.States.{embed_in, embed, answered, Tuning, ValidPhase, ValidState}
+use Rattle.promise.proofs.States.{embed_in, embed, answer_step, plain_step, Tuning, ValidPhase, ValidState}
 
--- ---- the definitions, opened
+-- ---- a call on an accepted trainer
 change_is : (t : Trainer) (s : Settings) → accepted_of t ≡ true
-    → change_of t s ≡ cond (settings_hold s) (cond (settings_fit t s) (layer.taken (changed_to t s)) (layer.refuse 27 t)) (layer.refuse 2 t)
+    → change_of t s ≡ cond (settings_hold s) (cond (settings_fit t s) (Ok (changed_to t s)) (Err UnfitSettings)) (Err BadSettings)
 unfolding change_of
 change_is t s a = rw a
-
-plain_is : (st : State) (s : Settings)
-    → changed st s
-    ≡ cond (settings_taken s) (cond (taken st s) (become (at s st.tree st.stage st.round (phase_after st.phase))) (refuse 27 st)) (refuse 2 st)
-unfolding changed
-plain_is st s = refl
 
 -- settings that are refused with 2 leave the plain trainer
 pub refused_stays : (st : State) (s : Settings) → settings_taken s ≡ false → (changed st s).state ≡ st
@@ -62,32 +60,20 @@ module _ (u : Settings) (t : Tree) (i r : ℕ) (s : Settings) where
   becomes_in phase6 = refl
   becomes_in phase7 = refl
 
-pub change_embeds : (st : State) → ValidState st → (s : Settings) → change_of (embed st) s ≡ answered (changed st s)
+pub change_embeds : (st : State) → ValidState st → (s : Settings) → answer_step st (change_of (embed st) s) ≡ plain_step (changed st s)
+unfolding changed after_call number_of
 change_embeds st v s =
-    change_is (embed st) s (accepted_embeds st v)
-    ∙ ap (λ (b : Bool). cond b (cond (settings_fit (embed st) s) (layer.taken (changed_to (embed st) s)) (layer.refuse 27 (embed st))) (layer.refuse 2 (embed st)))
-    (sym (settings_same s))
-    ∙ ap (λ (b : Bool). cond (settings_taken s) (cond b (layer.taken (changed_to (embed st) s)) (layer.refuse 27 (embed st))) (layer.refuse 2 (embed st)))
-    (fit_in st.settings st.tree st.stage st.round s st.phase)
-    ∙ ap (λ (x : Trainer). cond (settings_taken s) (cond (taken st s) (layer.taken x) (layer.refuse 27 (embed st))) (layer.refuse 2 (embed st)))
-    (becomes_in st.settings st.tree st.stage st.round s st.phase)
-    ∙ go (settings_taken s) (taken st s)
-    ∙ ap answered (sym (plain_is st s))
+    ap (answer_step st) (change_is (embed st) s (accepted_embeds st v))
+    ∙ (λ j.
+    answer_step st
+    (cond (sym (settings_same s) j) (cond (fit_in st.settings st.tree st.stage st.round s st.phase j) (Ok (becomes_in st.settings st.tree st.stage st.round s st.phase j)) (Err UnfitSettings)) (Err BadSettings)))
+    ∙ both Shown (settings_taken s) {k = refuse 2 st}
+    (both Shown (taken st s) {m = become (at s st.tree st.stage st.round (phase_after st.phase))} {k = refuse 27 st} refl refl) refl
   where
-    new : State
-    new = at s st.tree st.stage st.round (phase_after st.phase)
-
-    go : (a b : Bool)
-        → cond a (cond b (layer.taken (embed new)) (layer.refuse 27 (embed st))) (layer.refuse 2 (embed st))
-        ≡ answered (cond a (cond b (become new) (refuse 27 st)) (refuse 2 st))
-    go true true = refl
-    go true false = refl
-    go false b = refl
+    Shown : Result Trainer Refusal → Outcome → Type 0
+    Shown r o = answer_step st r ≡ plain_step o
 
 -- ---- a valid state
-clash : false ≡ true → ⊥
-clash h = let z : ◌≡◌ {A = ℕ} 0 1 = ap (λ (b : Bool). cond b 1 0) h in omega arith
-
 tunes : (s : Settings) (i r : ℕ) → i ≤ s.rule_splits → ltb r s.optimization_rounds_per_split ≡ true → Tuning s i r
 tunes s i r l g = record { stage = l; round = ltb-true r s.optimization_rounds_per_split g }
 
@@ -99,8 +85,8 @@ phase_kept u t i r s phase2 h l g = record { later = h.later; stage = l; round =
 phase_kept u t i r s phase3 h l g = tunes s i r l g
 phase_kept u t i r s (phase4 leaf) h l g = (tunes s i r l g, h.1)
 phase_kept u t i r s (phase5 leaf best k kept) h l g = (tunes s i r l g, h.1.0)
-phase_kept u t i r s phase6 h l g = absurd (clash g)
-phase_kept u t i r s phase7 h l g = absurd (clash g)
+phase_kept u t i r s phase6 h l g = absurd (false≢true g)
+phase_kept u t i r s phase7 h l g = absurd (false≢true g)
 
 record Taken (st : State) (s : Settings) : Type 0 where
   ends : point_equal st.settings.ends s.ends ≡ true
@@ -110,12 +96,9 @@ record Taken (st : State) (s : Settings) : Type 0 where
 taken_parts : (st : State) (s : Settings) → taken st s ≡ true → Taken st s
 unfolding taken point_equal
 taken_parts st s h =
-    let k = and_right (same_ends_of st.settings s) (leb st.stage s.rule_splits && goes_on_of st s st.phase) h in
-    record {
-      ends = and_left (same_ends_of st.settings s) (leb st.stage s.rule_splits && goes_on_of st s st.phase) h;
-      stage = leb-true st.stage s.rule_splits (and_left (leb st.stage s.rule_splits) (goes_on_of st s st.phase) k);
-      goes = and_right (leb st.stage s.rule_splits) (goes_on_of st s st.phase) k;
-    }
+    let k = and_parts (same_ends_of st.settings s) _ h in
+    let l = and_parts (leb st.stage s.rule_splits) _ k.1 in
+    record { ends = k.0; stage = leb-true st.stage s.rule_splits l.0; goes = l.1 }
 
 module _ (st : State) (v : ValidState st) (s : Settings) (f : PointFits s.ends) where
   ends_stay : settings_hold s ≡ true → point_equal st.settings.ends s.ends ≡ true → st.tree.ends ≡ s.ends

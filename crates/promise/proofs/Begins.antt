@@ -1,15 +1,16 @@
 -- Stages and rounds begin alike, and begin in valid states. Assumes nothing.
-use mathlib.Core.Path.{◌≡◌, refl, sym, ap, subst, ◌∙◌}
-use mathlib.Core.Bool.{Bool, true, false, cond}
+use mathlib.Core.Path.{◌≡◌, refl, sym, ap, ◌∙◌}
+use mathlib.Core.Bool.{true}
 use Prim.Native.Nat.{ℕ, ◌+◌, ◌≤◌}
 use native.Mathlib.Omega.{arith}
 use borrow.Author.Tests.{ltb-true, ltb-false}
 use lib.Dec.{ltb}
+use Rattle.std.proofs.lemmas.Bool.{cond_both}
+use Rattle.refusal.proofs.Guards.{both}
 use Rattle.rule_tree.specs.declared.RuleTree.{RuleTree}
 use Rattle.rule_tree.proofs.Plain.{PointFits}
 use Rattle.trainer.specs.declared.settings.Settings.{Settings}
 use Rattle.trainer.specs.Settings.{settings_hold}
-use Rattle.trainer.specs.State.{stand}
 use Rattle.trainer.specs.Phases as layer
 use Rattle.trainer.specs.Calls.{started}
 use Rattle.trainer.proofs.Holds.{parts}
@@ -19,32 +20,15 @@ use Rattle.promise.proofs.Embed.{embed_tree, ValidTree}
 use Rattle.promise.proofs.TreeSteps.{root_embeds}
 use Rattle.promise.proofs.TreeKeeps.{root_valid}
 use Rattle.promise.proofs.Candidates.{default_valid}
-use Rattle.promise.proofs.States.{embed, ValidState}
+use Rattle.promise.proofs.States.{embed, Embeds, ValidState}
 
 stage_embeds : (s : Settings) (t : Tree) (i : ℕ) → layer.begin_stage s (embed_tree t) i ≡ embed (begin_later_stage s t i)
 unfolding layer.begin_stage begin_later_stage
-stage_embeds s t i = go (ltb s.rule_splits i)
-  where
-    go : (b : Bool) → cond b (stand s (embed_tree t) 6 i 0) (stand s (embed_tree t) 1 i 0) ≡ embed (cond b (at s t i 0 phase6) (at s t i 0 phase1))
-    go true = refl
-    go false = refl
-
-round_is : (s : Settings) (t : RuleTree) (i r : ℕ) → layer.begin_round s t i r ≡ cond (ltb r s.optimization_rounds_per_split) (stand s t 3 i r) (layer.begin_stage s t (i + 1))
-unfolding layer.begin_round
-round_is s t i r = refl
-
-plain_round_is : (s : Settings) (t : Tree) (i r : ℕ) → begin_round s t i r ≡ cond (ltb r s.optimization_rounds_per_split) (at s t i r phase3) (begin_later_stage s t (i + 1))
-unfolding begin_round
-plain_round_is s t i r = refl
+stage_embeds s t i = both Embeds (ltb s.rule_splits i) {m = at s t i 0 phase6} {k = at s t i 0 phase1} refl refl
 
 pub round_embeds : (s : Settings) (t : Tree) (i r : ℕ) → layer.begin_round s (embed_tree t) i r ≡ embed (begin_round s t i r)
-round_embeds s t i r = round_is s (embed_tree t) i r ∙ go (ltb r s.optimization_rounds_per_split) ∙ ap embed (sym (plain_round_is s t i r))
-  where
-    go :
-        (b : Bool)
-        → cond b (stand s (embed_tree t) 3 i r) (layer.begin_stage s (embed_tree t) (i + 1)) ≡ embed (cond b (at s t i r phase3) (begin_later_stage s t (i + 1)))
-    go true = refl
-    go false = stage_embeds s t (i + 1)
+unfolding layer.begin_round begin_round
+round_embeds s t i r = both Embeds (ltb r s.optimization_rounds_per_split) {m = at s t i r phase3} refl (stage_embeds s t (i + 1))
 
 pub start_embeds : (s : Settings) → embed (start s) ≡ started s
 start_embeds s =
@@ -54,25 +38,17 @@ start_embeds s =
 module _ (s : Settings) (h : settings_hold s ≡ true) (t : Tree) (v : ValidTree t) (b : t.ends ≡ s.ends) where
   stage_valid : (i : ℕ) → i ≤ s.rule_splits → ValidState (begin_later_stage s t (i + 1))
   unfolding begin_later_stage
-  stage_valid i l = go (ltb s.rule_splits (i + 1)) refl
-    where
-      go : (b : Bool) → ltb s.rule_splits (i + 1) ≡ b → ValidState (cond b (at s t (i + 1) 0 phase6) (at s t (i + 1) 0 phase1))
-      go true e =
-          record { settings = h; tree = v; box = b; phase = record { stage = omega (arith, ltb-true s.rule_splits (i + 1) e); round = refl } }
-      go false e =
-          record {
-            settings = h;
-            tree = v;
-            box = b;
-            phase = record { later = omega arith; stage = omega (arith, ltb-false s.rule_splits (i + 1) e); round = refl };
-          }
+  stage_valid i l =
+      cond_both (ltb s.rule_splits (i + 1)) _ _ ValidState
+      (λ e. record { settings = h; tree = v; box = b; phase = record { stage = omega (arith, ltb-true s.rule_splits (i + 1) e); round = refl } })
+      (λ e. record { settings = h; tree = v; box = b; phase = record { later = omega arith; stage = omega (arith, ltb-false s.rule_splits (i + 1) e); round = refl } })
 
   pub round_valid : (i r : ℕ) → i ≤ s.rule_splits → ValidState (begin_round s t i r)
-  round_valid i r l = subst ValidState (sym (plain_round_is s t i r)) (go (ltb r s.optimization_rounds_per_split) refl)
-    where
-      go : (b : Bool) → ltb r s.optimization_rounds_per_split ≡ b → ValidState (cond b (at s t i r phase3) (begin_later_stage s t (i + 1)))
-      go true e = record { settings = h; tree = v; box = b; phase = record { stage = l; round = ltb-true r s.optimization_rounds_per_split e } }
-      go false e = stage_valid i l
+  unfolding begin_round
+  round_valid i r l =
+      cond_both (ltb r s.optimization_rounds_per_split) _ _ ValidState
+      (λ e. record { settings = h; tree = v; box = b; phase = record { stage = l; round = ltb-true r s.optimization_rounds_per_split e } })
+      (λ e. stage_valid i l)
 
 -- ---- the start
 pub start_valid : (s : Settings) → settings_hold s ≡ true → PointFits s.ends → ValidState (start s)

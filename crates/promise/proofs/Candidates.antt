@@ -7,9 +7,10 @@ use native.Mathlib.Omega.{arith}
 use borrow.Author.Tests.{leb-true}
 use lib.Dec.{leb}
 use lib.ListN.{length, get_or}
-use lib.IntN.{ℤ, pos, ◌*ℤ◌}
+use lib.IntN.{ℤ, pos, ◌+ℤ◌, ◌*ℤ◌}
 use lib.Signed.{le_z}
 use lib.Ieee.{Float, binary64, mul, le, of_int}
+use Rattle.std.proofs.lemmas.Bool.{and_parts}
 use Rattle.remy.specs.declared.action.Action.{Action}
 use Rattle.remy.specs.Action.{action_of, valid_of}
 use Rattle.trainer.specs.declared.settings.Settings.{Settings}
@@ -20,22 +21,24 @@ use Rattle.trainer.specs.Candidates as those
 use Rattle.trainer.specs.Axes.{multiplier_sums, increment_sums, delay_sums}
 use Rattle.trainer.proofs.Lists.{get_d_any}
 use Rattle.trainer.proofs.Product as its
-use Rattle.trainer.proofs.Holds.{and_left, and_right, parts, min_valid, max_valid}
+use Rattle.trainer.proofs.Holds.{parts}
 use Rattle.trainer.proofs.AcceptedFacts.{few_splits, few_rounds}
 use Rattle.trainer.proofs.CandidateLaws as laws
 use Rattle.promise.specs.PlainCandidates as plain
 use Rattle.promise.specs.PlainCandidates.{improvements, no_candidate}
 
 -- ---- the same lists
+axis_lem : {A : Type 0} (at_most : A → A → Bool) (times : A → A) (n : ℕ) (x max : A)
+    → plain.while (λ (v : A). at_most v max) (plain.growing n times x) ≡ theirs.axis at_most times n x max
+unfolding plain.while plain.growing theirs.axis
+axis_lem at_most times zero x max = refl
+axis_lem {A} at_most times (suc n) x max = ap (λ (vs : List A). cond (at_most x max) (x ∷ vs) []) (axis_lem at_most times n (times x) max)
+
 pub float_axis_lem : (n : ℕ) (t x max : Float) → plain.while (λ (v : Float). le v max) (plain.growing n (mul binary64 t) x) ≡ theirs.float_axis n t x max
-unfolding plain.while plain.growing theirs.float_axis
-float_axis_lem zero t x max = refl
-float_axis_lem (suc n) t x max = ap (λ (vs : List Float). cond (le x max) (x ∷ vs) []) (float_axis_lem n t (mul binary64 t x) max)
+float_axis_lem n t x max = axis_lem le (mul binary64 t) n x max
 
 pub whole_axis_lem : (n : ℕ) (t x max : ℤ) → plain.while (λ (v : ℤ). le_z v max) (plain.growing n (◌*ℤ◌ t) x) ≡ theirs.whole_axis n t x max
-unfolding plain.while plain.growing theirs.whole_axis
-whole_axis_lem zero t x max = refl
-whole_axis_lem (suc n) t x max = ap (λ (vs : List ℤ). cond (le_z x max) (x ∷ vs) []) (whole_axis_lem n t (t *ℤ x) max)
+whole_axis_lem n t x max = axis_lem le_z (◌*ℤ◌ t) n x max
 
 same_flat : {A B : Type 0} (f g : A → List B) → ((x : A) → f x ≡ g x) → (xs : List A) → flat_map f xs ≡ those.flat_map g xs
 unfolding flat_map those.flat_map
@@ -61,7 +64,9 @@ module _ (s : Settings) (a : Action) where
   same_multipliers = same_sums _ _ _ _ _ (float_axis_lem 8 _ _ _)
 
   same_increments : plain.whole_sums plain.increment_of s a ≡ increment_sums s a
-  same_increments = same_sums _ _ _ _ _ (whole_axis_lem 8 _ _ _)
+  same_increments =
+      same_sums _ (◌+ℤ◌ (plain.increment_of a)) _ _ _
+      (whole_axis_lem 8 (pos s.action_change_multiplier) (plain.increment_of s.initial_action_change) (plain.increment_of s.max_action_change))
 
   same_delays : plain.float_sums plain.delay_of s a ≡ delay_sums s a
   same_delays = same_sums _ _ _ _ _ (float_axis_lem 8 _ _ _)
@@ -120,10 +125,9 @@ module _ (s : Settings) (h : settings_hold s ≡ true) (n : ℕ) (m : 8 ≤ n) w
   unfolding axes_hold
   axes-few =
       let all = (parts s h).3 in
-      let r = and_right (leb (length (theirs.multiplier_axis 9 s)) 8) _ all in (
-        leb-true _ 8 (and_left (leb (length (theirs.multiplier_axis 9 s)) 8) _ all),
-        (leb-true _ 8 (and_left (leb (length (theirs.increment_axis 9 s)) 8) _ r), leb-true _ 8 (and_right (leb (length (theirs.increment_axis 9 s)) 8) _ r)),
-      )
+      let q = and_parts (leb (length (theirs.multiplier_axis 9 s)) 8) _ all in
+      let r = and_parts (leb (length (theirs.increment_axis 9 s)) 8) _ q.1 in
+      (leb-true _ 8 q.0, (leb-true _ 8 r.0, leb-true _ 8 r.1))
 
   float-whole :
       (part : Action → Float) → let t = of_int binary64 (pos s.action_change_multiplier) in
@@ -163,19 +167,22 @@ pub settings_facts : (s : Settings) → settings_hold s ≡ true → Held s
 unfolding numbers_hold actions_hold
 settings_facts s h =
     let numbers = (parts s h).0 in
-    let acts = and_right (valid_of s.min_action) _ (parts s h).1 in
-    let changes = and_right (valid_of s.max_action) _ acts in
-    let last = and_right (valid_of s.initial_action_change) _ changes in
+    let round = and_parts (leb s.rule_splits 64) _ numbers in
+    let multiplier = and_parts (leb s.optimization_rounds_per_split 1000) _ round.1 in
+    let most = and_parts (leb 2 s.action_change_multiplier) _ multiplier.1 in
+    let least = and_parts (valid_of s.min_action) _ (parts s h).1 in
+    let changes = and_parts (valid_of s.max_action) _ least.1 in
+    let largest = and_parts (valid_of s.initial_action_change) _ changes.1 in
+    let default = and_parts (valid_of s.max_action_change) _ largest.1 in
     record {
       splits = few_splits s h;
       rounds = few_rounds s h;
-      multiplier = leb-true s.action_change_multiplier 16
-          (and_right (leb 2 s.action_change_multiplier) _ (and_right (leb s.optimization_rounds_per_split 1000) _ (and_right (leb s.rule_splits 64) _ numbers)));
-      least = min_valid s h;
-      most = max_valid s h;
-      initial = and_left (valid_of s.initial_action_change) _ changes;
-      largest = and_left (valid_of s.max_action_change) _ last;
-      default = and_right (valid_of s.max_action_change) _ last;
+      multiplier = leb-true s.action_change_multiplier 16 most.1;
+      least = least.0;
+      most = changes.0;
+      initial = largest.0;
+      largest = default.0;
+      default = default.1;
     }
 
 pub default_valid : (s : Settings) → settings_hold s ≡ true → valid_of s.default_action ≡ true

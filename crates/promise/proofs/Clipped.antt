@@ -1,7 +1,7 @@
 -- The plain side's flag is the window rule's: where the product, once cut to whole, is in the range of i32, the rule's sum is that of
 -- the cut product. Assumes nothing.
-use mathlib.Core.Path.{◌≡◌, refl, ap, ◌∙◌}
-use mathlib.Core.Bool.{Bool, true, false, not, ◌&&◌, ◌||◌}
+use mathlib.Core.Path.{◌≡◌, refl, sym, ap, ◌∙◌}
+use mathlib.Core.Bool.{Bool, true, false, not, ◌&&◌, ◌||◌, or-true, or-false}
 use Prim.Native.Nat.{ℕ, zero, suc, ◌*◌, ◌/◌, ◌-◌, ◌^◌, ◌≤◌, ◌<◌, min}
 use native.Mathlib.Omega.{arith}
 use borrow.Author.Tests.{ltb-true, ltb-false, le-leb, lt-leb}
@@ -27,14 +27,6 @@ sum_outside (pos n) = ap (λ (b : Bool). not (b && leb n 1000000)) (leb-zero n) 
 sum_outside (negsuc n) = refl
 
 -- ---- a whole number against the range of i32
-or-true : (b : Bool) → true ≡ (b || true)
-or-true true = refl
-or-true false = refl
-
-or-false : (b : Bool) → b ≡ (b || false)
-or-false true = refl
-or-false false = refl
-
 below_end : (q : ℕ) → 2147483648 < q → le_z (negsuc 2147483647) (neg_ℤ (pos q)) ≡ false
 below_end zero h = absurd (omega arith)
 below_end (suc k) h = lt-leb k 2147483647 (omega arith)
@@ -55,12 +47,12 @@ negative q i = go (ltb 2147483648 q) refl
     go true e =
         let h = ltb-true 2147483648 q e in
         ap (λ (b : Bool). not ((b && le_z (neg_ℤ (pos q)) (pos 2147483647)) && within (pos 0) (neg_ℤ (pos q) +ℤ i) (pos 1000000))) (below_end q h)
-        ∙ or-true (outside (neg_ℤ (pos (min q 2147483648)) +ℤ i))
+        ∙ sym (or-true (outside (neg_ℤ (pos (min q 2147483648)) +ℤ i)))
     go false e =
         let h = ltb-false 2147483648 q e in
         let m : q ≡ min q 2147483648 = omega arith in
         ap (λ (b : Bool). not (b && within (pos 0) (neg_ℤ (pos q) +ℤ i) (pos 1000000))) (in_below q h)
-        ∙ sum_outside (neg_ℤ (pos q) +ℤ i) ∙ ap (λ (n : ℕ). outside (neg_ℤ (pos n) +ℤ i)) m ∙ or-false (outside (neg_ℤ (pos (min q 2147483648)) +ℤ i))
+        ∙ sum_outside (neg_ℤ (pos q) +ℤ i) ∙ ap (λ (n : ℕ). outside (neg_ℤ (pos n) +ℤ i)) m ∙ sym (or-false (outside (neg_ℤ (pos (min q 2147483648)) +ℤ i)))
 
 positive : (q : ℕ) (i : ℤ)
     → not (within (negsuc 2147483647) (pos q) (pos 2147483647) && within (pos 0) (pos q +ℤ i) (pos 1000000))
@@ -71,17 +63,17 @@ positive q i = go (ltb 2147483647 q) refl
         → not (leb q 2147483647 && within (pos 0) (pos q +ℤ i) (pos 1000000)) ≡ (outside (pos (min q 2147483647) +ℤ i) || b)
     go true e =
         ap (λ (b : Bool). not (b && within (pos 0) (pos q +ℤ i) (pos 1000000))) (lt-leb q 2147483647 (ltb-true 2147483647 q e))
-        ∙ or-true (outside (pos (min q 2147483647) +ℤ i))
+        ∙ sym (or-true (outside (pos (min q 2147483647) +ℤ i)))
     go false e =
         let h = ltb-false 2147483647 q e in
         let m : q ≡ min q 2147483647 = omega arith in
         ap (λ (b : Bool). not (b && within (pos 0) (pos q +ℤ i) (pos 1000000))) (le-leb q 2147483647 h)
-        ∙ sum_outside (pos q +ℤ i) ∙ ap (λ (n : ℕ). outside (pos n +ℤ i)) m ∙ or-false (outside (pos (min q 2147483647) +ℤ i))
+        ∙ sum_outside (pos q +ℤ i) ∙ ap (λ (n : ℕ). outside (pos n +ℤ i)) m ∙ sym (or-false (outside (pos (min q 2147483647) +ℤ i)))
 
 clips_at_lem : (x : Float) (i : ℤ) → clips_at x i ≡ (outside (to_signed 31 x +ℤ i) || cut_outside x)
 unfolding clips_at cut_outside to_signed
-clips_at_lem nan i = or-true (outside (pos 0 +ℤ i))
-clips_at_lem (inf s) i = or-true (outside (to_signed 31 (inf s) +ℤ i))
+clips_at_lem nan i = sym (or-true (outside (pos 0 +ℤ i)))
+clips_at_lem (inf s) i = sym (or-true (outside (to_signed 31 (inf s) +ℤ i)))
 clips_at_lem (fin true m e) i = negative (m * up e / down e) i
 clips_at_lem (fin false m e) i = positive (m * up e / down e) i
 

@@ -1,18 +1,20 @@
 -- Counts: the plain trainer's tests, sums and refusal 4 are the trainer's. Assumes nothing.
 use mathlib.Core.Path.{◌≡◌, refl, sym, ap, ◌∙◌}
-use mathlib.Core.Bool.{Bool, true, false, not, ◌||◌, cond}
+use mathlib.Core.Bool.{Bool, true, false, not, cond}
+use mathlib.Core.Logic.{⊎_elim}
 use mathlib.Core.List.{List, [], ◌∷◌}
-use Prim.Native.Nat.{ℕ, zero, suc, ◌+◌, ◌<◌, ◌≤◌}
+use Prim.Native.Nat.{ℕ, ◌+◌, ◌<◌, ◌≤◌}
 use native.Mathlib.Omega.{arith}
-use borrow.Author.Tests.{le-ltb, le-leb, eq-eqb, eqb-true, leb-true, ltb-false, not-true}
+use borrow.Author.Tests.{le-ltb, le-leb, eq-eqb, eqb-true, leb-true, ltb-false, not-true, not-false}
 use lib.Dec.{eqb, ltb}
 use lib.ListN.{length, get_or}
+use Rattle.std.proofs.lemmas.Bool.{and_parts, or_parts, or_right, or_cases}
 use Rattle.rule_tree.specs.Lists.{count_below, total}
 use Rattle.rule_tree.specs.Nodes as layer
 use Rattle.rule_tree.specs.Counts.{limit, used_in, counts_hold}
-use Rattle.rule_tree.proofs.Counting.{and_left, and_right, Accepted, counts_accepted, accepted_counts}
+use Rattle.rule_tree.proofs.Counting.{Accepted, counts_accepted, accepted_counts}
+use Rattle.rule_tree.proofs.Lists.{count_below_first}
 use Rattle.promise.specs.PlainTree.{Tree, nodes, member, sum, used, parent_counted, counts_taken}
-use Rattle.promise.proofs.Links.{no, or_false_left, or_false_right, or_right}
 use Rattle.promise.proofs.Embed.{embed_tree, ValidTree, parent_below}
 use Rattle.promise.proofs.TreeKeeps.{children_is}
 
@@ -28,28 +30,20 @@ sum_total [] = refl
 sum_total (x ∷ xs) = ap (λ (n : ℕ). x + n) (sum_total xs)
 
 -- ---- how many are above 0
-count_first : (n : ℕ) (f : ℕ → Bool) → count_below (suc n) f ≡ cond (f 0) 1 0 + count_below n (λ i. f (suc i))
-unfolding count_below
-count_first zero f = refl
-count_first (suc n) f = let h = count_first n f in omega arith
-
 pub used_is : (xs : List ℕ) → used xs ≡ used_in xs
 unfolding used count_below
 used_is [] = refl
 used_is (x ∷ xs) =
-    ap (λ (n : ℕ). cond (ltb 0 x) 1 0 + n) (used_is xs) ∙ sym (count_first (length xs) (λ i. ltb 0 (get_or (x ∷ xs) i 0)))
+    ap (λ (n : ℕ). cond (ltb 0 x) 1 0 + n) (used_is xs) ∙ sym (count_below_first (length xs) (λ i. ltb 0 (get_or (x ∷ xs) i 0)))
 
 -- ---- no parent counted
 uncounted : (xs ps : List ℕ) → parent_counted xs ps ≡ false → (i : ℕ) → member i ps ≡ true → get_or xs i 0 ≡ 0
 unfolding parent_counted member
-uncounted xs [] h i m = absurd (no true refl (sym m))
-uncounted xs (p ∷ ps) h i m = go (eqb p i) refl m (uncounted xs ps (or_false_right (ltb 0 (get_or xs p 0)) (parent_counted xs ps) h) i)
-  where
-    go : (b : Bool) → eqb p i ≡ b → b || member i ps ≡ true → (member i ps ≡ true → get_or xs i 0 ≡ 0) → get_or xs i 0 ≡ 0
-    go true e m r =
-        let z = ltb-false 0 (get_or xs p 0) (or_false_left (ltb 0 (get_or xs p 0)) (parent_counted xs ps) h) in
-        omega (arith, ap (λ (k : ℕ). get_or xs k 0) (eqb-true p i e))
-    go false e m r = r m
+uncounted xs [] h i m = cc
+uncounted xs (p ∷ ps) h i m =
+    let q = or_parts (ltb 0 (get_or xs p 0)) (parent_counted xs ps) h in
+    ⊎_elim (λ e. let z = ltb-false 0 (get_or xs p 0) q.0 in omega (arith, ap (λ (k : ℕ). get_or xs k 0) (eqb-true p i e)))
+    (λ r. uncounted xs ps q.1 i r) (or_cases (eqb p i) (member i ps) m)
 
 counted_none : (xs ps : List ℕ) → ((i : ℕ) → member i ps ≡ true → get_or xs i 0 ≡ 0) → parent_counted xs ps ≡ false
 unfolding parent_counted member
@@ -68,11 +62,12 @@ pub record Taken (t : Tree) (xs : List ℕ) : Type 0 where
 taken_facts : (t : Tree) (xs : List ℕ) → counts_taken t xs ≡ true → Taken t xs
 unfolding counts_taken
 taken_facts t xs h =
-    let r = and_right (eqb (length xs) (nodes t)) _ h in
+    let q = and_parts (eqb (length xs) (nodes t)) _ h in
+    let r = and_parts (not (parent_counted xs t.splits)) _ q.1 in
     record {
-      one_a_node = eqb-true _ _ (and_left _ _ h);
-      none_at_a_parent = not-true (parent_counted xs t.splits) (and_left (not (parent_counted xs t.splits)) _ r);
-      total_held = leb-true (sum xs) limit (and_right (not (parent_counted xs t.splits)) _ r);
+      one_a_node = eqb-true _ _ q.0;
+      none_at_a_parent = not-true (parent_counted xs t.splits) r.0;
+      total_held = leb-true (sum xs) limit r.1;
     }
 
 facts_taken : (t : Tree) (xs : List ℕ) → Taken t xs → counts_taken t xs ≡ true
@@ -89,11 +84,7 @@ module _ (t : Tree) (v : ValidTree t) (xs : List ℕ) where
       }
     where
       split_node : (i : ℕ) → i < nodes t → layer.is_leaf_of (embed_tree t).nodes i ≡ false → member i t.splits ≡ true
-      split_node i l p = go (member i t.splits) (sym (children_is t v i l) ∙ p)
-        where
-          go : (b : Bool) → not b ≡ false → b ≡ true
-          go true e = refl
-          go false e = sym e
+      split_node i l p = not-false (member i t.splits) (sym (children_is t v i l) ∙ p)
 
   accepted_taken : Accepted (embed_tree t) xs → Taken t xs
   accepted_taken h =

@@ -9,7 +9,7 @@ use Rattle.rule_tree.specs.declared.RuleTree.{RuleTree}
 use Rattle.trainer.specs.declared.settings.Settings.{Settings}
 use Rattle.trainer.specs.declared.Trainer.{Trainer}
 use Rattle.trainer.specs.Settings.{settings_hold}
-use Rattle.trainer.specs.Calls.{start_of, question_of}
+use Rattle.trainer.specs.Calls.{started, question_of}
 use Rattle.record.specs.Write.{record_of}
 use Rattle.promise.specs.PlainTrainer.{Call, start}
 use Rattle.promise.specs.Values.{Every, FitSettings, FitCall}
@@ -17,16 +17,16 @@ use Rattle.promise.specs.Demand3.{events_of, end_of, plain_end_of, tree_after, p
 use Rattle.promise.proofs.Embed.{embed_tree, ValidTree}
 use Rattle.promise.proofs.States.{embed}
 use Rattle.promise.proofs.Accepted.{tree_of}
-use Rattle.promise.proofs.Begins.{start_valid}
+use Rattle.promise.proofs.Begins.{start_embeds, start_valid}
 use Rattle.promise.proofs.Questions.{question_embeds}
 use Rattle.promise.proofs.Records.{record_embeds}
 use Rattle.promise.proofs.Fitting.{every_take, point-fits, start_fits}
-use Rattle.promise.proofs.Runs.{events_embed, end_embeds, end_valid, starts_taken, starts_alike}
+use Rattle.promise.proofs.Runs.{events_embed, end_embeds, end_valid, starts_taken}
 use Rattle.promise.proofs.Ways.{tree_parted, tree_same, way_events, way_left, way_ack, way_unmoved, way_send, way_tick}
 
 module _ (s : Settings) (h : settings_hold s ≡ true) (f : FitSettings s) (cs : List Call) (c : Every FitCall cs) where
-  ends_alike : (ds : List Call) → Every FitCall ds → end_of (start_of s).trainer ds ≡ embed (plain_end_of (start s) ds)
-  ends_alike ds d = ap (λ (t : Trainer). end_of t ds) (starts_alike s h) ∙ end_embeds (start s) ds (start_valid s h (point-fits f.ends)) (start_fits s h f) d
+  ends_alike : (ds : List Call) → Every FitCall ds → end_of (started s) ds ≡ embed (plain_end_of (start s) ds)
+  ends_alike ds d = ap (λ (t : Trainer). end_of t ds) (sym (start_embeds s)) ∙ end_embeds (start s) ds (start_valid s h (point-fits f.ends)) (start_fits s h f) d
 
   -- each tree on the way is the one that the plain trainer's stands for
   pub way_valid : (k : ℕ) → ValidTree (plain_tree_after s cs k)
@@ -44,8 +44,8 @@ demand_3 s h f cs c =
     let valid = way_valid s h f cs c in
     record {
       starts = starts_taken s h;
-      asks = ap question_of (starts_alike s h) ∙ question_embeds (start s) (start_valid s h (point-fits f.ends));
-      events = ap (λ (t : Trainer). events_of t cs) (starts_alike s h) ∙ events_embed (start s) cs (start_valid s h (point-fits f.ends)) (start_fits s h f) c;
+      asks = ap question_of (sym (start_embeds s)) ∙ question_embeds (start s) (start_valid s h (point-fits f.ends));
+      events = ap (λ (t : Trainer). events_of t cs) (sym (start_embeds s)) ∙ events_embed (start s) cs (start_valid s h (point-fits f.ends)) (start_fits s h f) c;
       final = ap record_of (ends_alike s h f cs c cs c) ∙ record_embeds (plain_end_of (start s) cs) (end_valid (start s) cs (start_valid s h (point-fits f.ends)) c);
       trees = λ k p. subst (λ (t : RuleTree). Parted t p) (sym (alike k)) (tree_parted (plain_tree_after s cs k) (valid k) p);
       same = λ k. subst (λ (t : RuleTree). SameTree t (plain_tree_after s cs k)) (sym (alike k)) (tree_same (plain_tree_after s cs k) (valid k));

@@ -1,6 +1,6 @@
 -- The trainer's tree that a plain tree stands for, node by node. Assumes nothing.
 use mathlib.Core.Path.{◌≡◌, sym, ap, ◌∙◌}
-use mathlib.Core.Bool.{true, false, not, cond}
+use mathlib.Core.Bool.{true, false, cond}
 use mathlib.Core.List.{List}
 use Prim.Native.Nat.{ℕ, ◌*◌, ◌<◌, ◌≤◌}
 use native.Mathlib.Omega.{arith}
@@ -8,6 +8,7 @@ use borrow.Author.Tests.{lt-ltb, le-ltb, ltb-true, not-true}
 use lib.Dec.{ltb}
 use lib.ListN.{length, get_or, take}
 use lib.Seq.{ext_get_or}
+use Rattle.std.proofs.lemmas.Bool.{and_parts}
 use Rattle.remy.specs.declared.point.Point.{Point}
 use Rattle.remy.specs.Action.{valid_of}
 use Rattle.rule_tree.specs.declared.Node.{Node}
@@ -17,7 +18,6 @@ use Rattle.rule_tree.specs.Nodes.{no_node, node_at_of, blank_node, node_holding}
 use Rattle.rule_tree.specs.Grown.{ends_hold}
 use Rattle.rule_tree.proofs.Lists.{length_tabulate, get_d_tabulate}
 use Rattle.rule_tree.proofs.Plain.{PointFits}
-use Rattle.rule_tree.proofs.Counting.{and_left, and_right}
 use Rattle.promise.specs.PlainTree.{Tree, Rule, nodes, member, is_leaf_of, rule_at}
 use Rattle.promise.proofs.Links.{link, link_owner, link_leaf}
 
@@ -48,10 +48,10 @@ pub record ValidTree (t : Tree) : Type 0 where
 -- ---- leaves
 module _ (t : Tree) (i : ℕ) where
   pub leaf_below : is_leaf_of t i ≡ true → i < nodes t
-  leaf_below h = ltb-true i (nodes t) (and_left (ltb i (nodes t)) (not (member i t.splits)) h)
+  leaf_below h = ltb-true i (nodes t) (and_parts (ltb i (nodes t)) _ h).0
 
   pub leaf_unsplit : is_leaf_of t i ≡ true → member i t.splits ≡ false
-  leaf_unsplit h = not-true (member i t.splits) (and_right (ltb i (nodes t)) (not (member i t.splits)) h)
+  leaf_unsplit h = not-true (member i t.splits) (and_parts (ltb i (nodes t)) _ h).1
 
   pub leaf_from : i < nodes t → member i t.splits ≡ false → is_leaf_of t i ≡ true
   leaf_from l m = rw (lt-ltb i (nodes t) l, m)

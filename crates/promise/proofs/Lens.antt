@@ -5,22 +5,22 @@ use mathlib.Core.List.{[], ◌∷◌}
 use Prim.Native.Nat.{ℕ}
 use lib.IntN.{pos, negsuc}
 use lib.ListN.{length}
-use lib.Ieee.{Float, nan, fin, le, lt, add, mul, div}
+use lib.Ieee.{Float, nan, fin, le, lt, add, div}
 use Rattle.quantities.specs.Time.{span}
 use Rattle.remy.specs.declared.action.Action.{Action}
 use Rattle.remy.specs.declared.point.Point.{Point}
 use Rattle.remy.specs.Action.{action_of, valid_of, window_of}
 use Rattle.remy.specs.Cube.{zero, point_of, usual_ends, root_of, contains_of, child_cube, half_cube, half_of}
 use Rattle.remy.proofs.Lens.{upper_end_out, nan_ack, nan_send, nan_ratio, window_six, window_none, window_most, window_nan}
-use Rattle.rule_tree.specs.declared.Chosen.TheVariants.{Leaf}
+use Rattle.std.specs.Prelude.{Some, None, Ok}
 use Rattle.rule_tree.specs.Walk.{first_from, descend, leaf_of}
 use Rattle.rule_tree.specs.Change.{fresh_tree, split_at_of}
 use Rattle.rule_tree.specs.Calls.{most_used_of}
 use Rattle.rule_tree.proofs.Plain.{PointFits}
 use Rattle.rule_tree.proofs.Changing.{fresh_length, split_length}
 use Rattle.rule_tree_laws.proofs.Lens.{root_split, root_split_grown, lens_most_used}
-use Rattle.sender.specs.declared.Average.TheVariants.{Empty, Of}
 use Rattle.sender.specs.Memory.{averaged}
+use Rattle.sender.proofs.Averages.{eight_sixteen}
 use Rattle.record.proofs.BytesFit.{ends-fit}
 use Rattle.promise.specs.Demand3.{InLeaf, InNoLeaf}
 use Rattle.promise.proofs.Ways.{in_leaf, in_no_leaf}
@@ -57,9 +57,9 @@ pub record LensChecks (a : Action) (d : Float) : Type 0 where
   pub window_3 : window_of (action_of (whole 1 0) (pos 0) d) 4294967295 ≡ 1000000
   pub window_4 : (w : ℕ) → window_of (action_of nan (pos 7) d) w ≡ 7
   -- "Gaps 8, 16 average 9"
-  pub gaps : averaged (averaged Empty (span (whole 1 3))) (span (whole 1 4)) ≡ Of (span (whole 9 0))
+  pub gaps : averaged (averaged None (span (whole 1 3))) (span (whole 1 4)) ≡ Some (span (whole 9 0))
   -- "Counts 0 5 0 5 0 0 0 0 0: node 3", among all leaves and among the unmarked
-  pub counts : (u : Bool) → most_used_of u (root_split a) (0 ∷ 5 ∷ 0 ∷ 5 ∷ 0 ∷ 0 ∷ 0 ∷ 0 ∷ 0 ∷ []) ≡ Leaf 3
+  pub counts : (u : Bool) → most_used_of u (root_split a) (0 ∷ 5 ∷ 0 ∷ 5 ∷ 0 ∷ 0 ∷ 0 ∷ 0 ∷ 0 ∷ []) ≡ Ok (Some 3)
 
 -- ---- the root split
 late_leaf : (a : Action) → leaf_of (root_split a) late ≡ 5
@@ -91,11 +91,6 @@ module _ (a : Action) (v : valid_of a ≡ true) (p : Point) where
   split_outside : contains_of (root_of usual_ends) p ≡ false → InNoLeaf (root_split a) p
   split_outside e = in_no_leaf (root_split a) (root_split_grown a v) (split_sized a) split_fits p (rw (split_box a) e)
 
--- ---- the average
-gaps_average : averaged (averaged Empty (span (whole 1 3))) (span (whole 1 4)) ≡ Of (span (whole 9 0))
-unfolding averaged add mul
-gaps_average = refl
-
 pub lens_checks : (a : Action) → valid_of a ≡ true → (d : Float) → LensChecks a d
 lens_checks a v d =
     let box = root_of usual_ends in
@@ -112,6 +107,6 @@ lens_checks a v d =
       window_2 = window_none d;
       window_3 = window_most d;
       window_4 = window_nan d;
-      gaps = gaps_average;
+      gaps = eight_sixteen;
       counts = λ u. lens_most_used a u v;
     }

@@ -1,37 +1,15 @@
 -- The first child that a list of splits gives each node, and which nodes are parents. Assumes nothing.
 use mathlib.Core.Path.{◌≡◌, refl, sym, ap}
 use mathlib.Core.Bool.{Bool, true, false, ◌||◌, cond}
-use mathlib.Core.Logic.{◌⊎◌, ◌≢◌}
+use mathlib.Core.Logic.{◌≢◌}
 use mathlib.Core.List.{List, [], ◌∷◌, ◌++◌}
 use Prim.Native.Nat.{ℕ, zero, suc, ◌+◌, ◌*◌, ◌<◌}
 use native.Mathlib.Omega.{arith}
-use borrow.Author.Tests.{eq-eqb, ne_eqb, eqb-true, eqb-false}
+use borrow.Author.Tests.{eq-eqb, ne_eqb, eqb-true}
 use lib.Dec.{eqb}
 use lib.ListN.{length, get_or, take}
+use Rattle.std.proofs.lemmas.Bool.{or_parts, or_right}
 use Rattle.promise.specs.PlainTree.{member}
-
--- ---- tests
-pub no : (b : Bool) → b ≡ true → b ≡ false → ⊥
-no b p q = let z : ◌≡◌ {A = ℕ} 0 1 = cc in omega arith
-
-pub or_false_left : (a b : Bool) → a || b ≡ false → a ≡ false
-or_false_left true b h = h
-or_false_left false b h = refl
-
-pub or_false_right : (a b : Bool) → a || b ≡ false → b ≡ false
-or_false_right true b h = absurd (no true refl h)
-or_false_right false b h = h
-
-pub or_right : (a b : Bool) → b ≡ true → a || b ≡ true
-or_right true b h = refl
-or_right false b h = h
-
-pub same_or : (i j : ℕ) → (i ≡ j) ⊎ (i ≢ j)
-same_or i j = go (eqb i j) refl
-  where
-    go : (b : Bool) → eqb i j ≡ b → (i ≡ j) ⊎ (i ≢ j)
-    go true e = ◌⊎◌.inl (eqb-true i j e)
-    go false e = ◌⊎◌.inr (eqb-false i j e)
 
 -- the first child that the splits, the first of which is split number k, give node i; 0 for a leaf
 unfoldable pub link : ℕ → List ℕ → ℕ → ℕ
@@ -41,7 +19,7 @@ link k (p ∷ ps) i = cond (eqb p i) (8 * k + 1) (link (suc k) ps i)
 pub link_leaf : (k : ℕ) (ps : List ℕ) (i : ℕ) → member i ps ≡ false → link k ps i ≡ 0
 unfolding link member
 link_leaf k [] i h = refl
-link_leaf k (p ∷ ps) i h = rw (or_false_left (eqb p i) (member i ps) h) (link_leaf (suc k) ps i (or_false_right (eqb p i) (member i ps) h))
+link_leaf k (p ∷ ps) i h = let q = or_parts (eqb p i) (member i ps) h in rw q.0 (link_leaf (suc k) ps i q.1)
 
 -- the split that made node i a parent
 pub record Owner (k : ℕ) (ps : List ℕ) (i : ℕ) : Type 0 where
@@ -52,7 +30,7 @@ pub record Owner (k : ℕ) (ps : List ℕ) (i : ℕ) : Type 0 where
 
 pub link_owner : (k : ℕ) (ps : List ℕ) (i : ℕ) → member i ps ≡ true → Owner k ps i
 unfolding link member
-link_owner k [] i h = absurd (no true refl (sym h))
+link_owner k [] i h = cc
 link_owner k (p ∷ ps) i h = go (eqb p i) refl h (link_owner (suc k) ps i)
   where
     go : (b : Bool) → eqb p i ≡ b → b || member i ps ≡ true → (member i ps ≡ true → Owner (suc k) ps i) → Owner k (p ∷ ps) i
@@ -66,9 +44,8 @@ unfolding link member
 link_at k [] m l h = absurd (omega arith)
 link_at k (p ∷ ps) zero l h = rw (eq-eqb p p refl) (omega arith)
 link_at k (p ∷ ps) (suc m) l h =
-    let x = get_or ps m 0 in
-    rw (or_false_left (eqb p x) (member x (take m ps)) h)
-    (omega (arith, link_at (suc k) ps m (omega arith) (or_false_right (eqb p x) (member x (take m ps)) h)))
+    let q = or_parts (eqb p (get_or ps m 0)) (member (get_or ps m 0) (take m ps)) h in
+    rw q.0 (omega (arith, link_at (suc k) ps m (omega arith) q.1))
 
 -- ---- one split more
 pub link_old : (k : ℕ) (ps : List ℕ) (q i : ℕ) → i ≢ q → link k (ps ++ (q ∷ [])) i ≡ link k ps i
@@ -80,7 +57,7 @@ pub link_new : (k : ℕ) (ps : List ℕ) (q : ℕ) → member q ps ≡ false →
 unfolding link member
 link_new k [] q h = rw (eq-eqb q q refl) (omega arith)
 link_new k (p ∷ ps) q h =
-    rw (or_false_left (eqb p q) (member q ps) h) (omega (arith, link_new (suc k) ps q (or_false_right (eqb p q) (member q ps) h)))
+    let o = or_parts (eqb p q) (member q ps) h in rw o.0 (omega (arith, link_new (suc k) ps q o.1))
 
 pub member_old : (ps : List ℕ) (q i : ℕ) → i ≢ q → member i (ps ++ (q ∷ [])) ≡ member i ps
 unfolding member

@@ -8,7 +8,7 @@ use lib.IntN.{pos, negsuc}
 use lib.Ieee.{fin, binary64, of_int, div, mul, add, neg, le, lt, fits}
 use Rattle.remy.specs.declared.action.Action.{Action}
 use Rattle.remy.specs.Action.{action_of, valid_of}
-use Rattle.trainer.specs.Settings.{float_axis, whole_axis, numbers_hold, actions_hold, changes_hold, axes_hold, settings_hold}
+use Rattle.trainer.specs.Settings.{axis, numbers_hold, actions_hold, changes_hold, axes_hold, settings_hold}
 use Rattle.trainer.specs.Candidates.{flat_map, filter, inside_of, candidates_of}
 use Rattle.trainer.specs.Axes.{multiplier_sums, increment_sums, delay_sums}
 use Rattle.remy.specs.Cube.{ends_admitted}
@@ -21,7 +21,7 @@ use Rattle.promise.specs.Originals.{hundredths, original_settings}
 use Rattle.promise.proofs.Demand3.{demand_3}
 
 pub originals_hold : settings_hold original_settings ≡ true
-unfolding settings_hold numbers_hold actions_hold changes_hold axes_hold ends_hold ends_admitted float_axis whole_axis valid_of of_int div mul le lt
+unfolding settings_hold numbers_hold actions_hold changes_hold axes_hold ends_hold ends_admitted axis valid_of of_int div mul le lt
 originals_hold = refl
 
 pub originals_fit : FitSettings original_settings
@@ -44,7 +44,7 @@ abbrev from_default : List Action
 from_default = candidates_of original_settings original_settings.default_action
 
 pub originals_count : length from_default ≡ 36
-unfolding candidates_of flat_map filter inside_of float_axis whole_axis of_int div mul add neg le
+unfolding candidates_of flat_map filter inside_of axis of_int div mul add neg le
 originals_count = refl
 
 abbrev action : Action
@@ -59,15 +59,15 @@ unfolding of_int div
 first_reads = refl
 
 multipliers : multiplier_sums original_settings action ≡ fin false 4458563631096791 (negsuc 51) ∷ fin false 1080863910568919 (negsuc 49) ∷ fin false 7566047373982433 (negsuc 52) ∷ []
-unfolding flat_map filter float_axis of_int div mul add neg le
+unfolding flat_map filter axis of_int div mul add neg le
 multipliers = refl
 
 increments : increment_sums original_settings action ≡ pos 2 ∷ pos 0 ∷ pos 5 ∷ pos 17 ∷ []
-unfolding flat_map filter whole_axis
+unfolding flat_map filter axis
 increments = refl
 
 delays : delay_sums original_settings action ≡ fin false 6802236877180397 (negsuc 60) ∷ fin false 6456360425798343 (negsuc 60) ∷ fin false 5072854620270127 (negsuc 60) ∷ []
-unfolding flat_map filter float_axis of_int div mul add neg le
+unfolding flat_map filter axis of_int div mul add neg le
 delays = refl
 
 pub originals_first : (e : Action) → get_or from_default 0 e ≡ first

@@ -3,6 +3,7 @@ use mathlib.Core.Path.{◌≡◌, refl, ap, ◌∙◌}
 use mathlib.Core.Bool.{true}
 use Prim.Native.Nat.{ℕ}
 use lib.ListN.{get_or}
+use Rattle.std.specs.Prelude.{Ok}
 use Rattle.remy.specs.declared.action.Action.{Action}
 use Rattle.rule_tree.specs.declared.Node.{Node}
 use Rattle.rule_tree.specs.Nodes.{action_in}
@@ -21,7 +22,7 @@ use Rattle.promise.proofs.Candidates.{candidate_same}
 use Rattle.promise.proofs.Accepted.{accepted_embeds}
 use Rattle.promise.proofs.States.{embed_in, embed, ValidPhase, ValidState}
 
-question_is : (t : Trainer) → accepted_of t ≡ true → question_of t ≡ asked_of t
+question_is : (t : Trainer) → accepted_of t ≡ true → question_of t ≡ Ok (asked_of t)
 unfolding question_of
 question_is t a = rw a
 
@@ -41,7 +42,7 @@ asked_in s t i r (phase5 leaf best k kept) v h =
 asked_in s t i r phase6 v h = refl
 asked_in s t i r phase7 v h = refl
 
-pub question_embeds : (st : State) → ValidState st → question_of (embed st) ≡ shown_as (question st)
+pub question_embeds : (st : State) → ValidState st → question_of (embed st) ≡ Ok (shown_as (question st))
 question_embeds st v =
     question_is (embed st) (accepted_embeds st v)
-    ∙ asked_in st.settings st.tree st.stage st.round st.phase v.tree v.phase
+    ∙ ap Ok (asked_in st.settings st.tree st.stage st.round st.phase v.tree v.phase)

@@ -1,11 +1,13 @@
 -- The trainer that is read from any bytes, in any layout: its values are of their types, and what the layout does not write is what is
 -- read in its place. Assumes nothing.
 use mathlib.Core.Path.{◌≡◌, refl, sym, ap, subst, ◌∙◌}
-use mathlib.Core.Bool.{Bool, true, false, ◌||◌, cond}
+use mathlib.Core.Bool.{Bool, true, false, cond}
 use mathlib.Core.List.{List}
 use Prim.Native.Nat.{ℕ, ◌+◌, ◌<◌}
 use borrow.Author.Tests.{ltb-true, ltb-false}
 use lib.Dec.{ltb}
+use Rattle.std.proofs.lemmas.Bool.{or_right}
+use Rattle.refusal.proofs.Guards.{either}
 use Rattle.floats.proofs.Bits.{read_fits}
 use Rattle.remy.specs.declared.action.Action.{Action}
 use Rattle.remy.specs.Cube.{usual_ends}
@@ -25,7 +27,6 @@ use Rattle.record.proofs.Reading.{node_is, unused_is}
 use Rattle.record.proofs.RoundTrip.{Carried}
 use Rattle.record.proofs.BytesFit.{plain_fits, ends-fit}
 use Rattle.promise.specs.Values.{FitAction}
-use Rattle.promise.proofs.Links.{no, or_right}
 use Rattle.promise.proofs.Unembed.{TrainerFits, accepted_grown}
 use Rattle.promise.proofs.Fitting.{valid_fits}
 
@@ -43,7 +44,7 @@ given_node :
 given_node lay a bytes at c x q e = go (carries lay c) refl q
   where
     go : (z : Bool) → carries lay c ≡ z → x ≡ cond z (carried_node bytes at c) (given_node_lem a c) → x ≡ given_node_lem a x.children
-    go true p q = absurd (no (carries lay c) p (ap (carries lay) (sym (ap (λ (n : Node). n.children) q)) ∙ e))
+    go true p q = cc
     go false p q = q ∙ ap (given_node_lem a) (sym (ap (λ (n : Node). n.children) q))
 
 -- ---- what is read is of its types
@@ -53,11 +54,7 @@ action_typed bytes at = record { multiplier = read_fits _; delay = read_fits _ }
 -- a node's action stands at its place or, where the layout does not carry it, at the settings' default
 node_action_typed :
     (lay : Layout) (bytes : List ℕ) (at c : ℕ) → FitAction (action_in (node_with lay (given_action (settings_at lay bytes 5)) bytes at c))
-node_action_typed lay bytes at c = go (carries lay c)
-  where
-    go : (z : Bool) → FitAction (action_in (cond z (carried_node bytes at c) (given_node_lem (given_action (settings_at lay bytes 5)) c)))
-    go true = action_typed bytes at
-    go false = action_typed bytes 98
+node_action_typed lay bytes at c = either (λ (x : Node). FitAction (action_in x)) (carries lay c) (action_typed bytes at) (action_typed bytes 98)
 
 module _ (lay : Layout) (bytes : List ℕ) where
   abbrev read : Trainer
@@ -93,11 +90,7 @@ module _ (lay : Layout) (bytes : List ℕ) where
       go false p = subst (λ (n : Node). ActionFits (action_in n)) (sym (read_unused i l p)) plain_fits
 
   ends_typed : PointFits read.tree.ends
-  ends_typed = go lay.ends
-    where
-      go : (z : Bool) → PointFits (cond z (point_at bytes 118) usual_ends)
-      go true = record { acks = read_fits _; sends = read_fits _; ratios = read_fits _ }
-      go false = ends-fit
+  ends_typed = either PointFits lay.ends (record { acks = read_fits _; sends = read_fits _; ratios = read_fits _ }) ends-fit
 
   pub read_typed : accepted_of (read_in lay bytes) ≡ true → TrainerFits (read_in lay bytes)
   read_typed a =
@@ -132,4 +125,4 @@ module _ (lay : Layout) (bytes : List ℕ) where
           → node_at_of read.tree.nodes i ≡ given_node_lem given (node_at_of read.tree.nodes i).children
       go i l e true p = given_node lay given bytes (place i) (child i) (node_at_of read.tree.nodes i) (read_used i l p) e
       go i l e false p =
-          absurd (no (lay.parents || true) (or_right lay.parents true refl) (ap (λ (n : Node). carries lay n.children) (sym (read_unused i l p)) ∙ e))
+          cc (or_right lay.parents true refl, ap (λ (n : Node). carries lay n.children) (sym (read_unused i l p)) ∙ e)

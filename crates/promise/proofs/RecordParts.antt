@@ -8,10 +8,10 @@ use mir.Val.{of_z}
 use Rattle.remy.specs.declared.action.Action.{Action}
 use Rattle.remy.specs.Cube.{ack, send, ratio}
 use Rattle.trainer.specs.declared.settings.Settings.{Settings}
-use Rattle.wire.specs.Bytes.{bytes_of, flag_byte}
+use Rattle.wire.specs.Bytes.{bytes_of, flag_byte, shorts_bytes}
 use Rattle.wire.specs.Fields.{float_bytes, action_bytes, point_bytes}
 use Rattle.record.specs.declared.inner.layout.Layout.{Layout}
-use Rattle.record.specs.Write.{settings_bytes, end_bytes, numbers_bytes, node_bytes}
+use Rattle.record.specs.Write.{settings_bytes, end_bytes, node_bytes}
 use Rattle.promise.specs.PlainTree.{Rule}
 use Rattle.promise.specs.PlainRecord.{joined, u16, bits8, action_part, settings_part, ends_part, rule_part}
 use Rattle.promise.proofs.Embed.{node_with}
@@ -38,8 +38,8 @@ settings_part_lem s =
 pub ends_part_lem : (lay : Layout) (s : Settings) → lay.ends ≡ true → ends_part s ≡ end_bytes lay s
 ends_part_lem lay s e = ap (λ (xs : List ℕ). bits8 (ack s.ends) ++ (bits8 (send s.ends) ++ xs)) (append-nil (bits8 (ratio s.ends))) ∙ ap (λ (b : Bool). cond b (point_bytes s.ends) []) (sym e)
 
-pub numbers_part : (xs : List ℕ) → joined (map u16 xs) ≡ numbers_bytes xs
-unfolding numbers_bytes
+pub numbers_part : (xs : List ℕ) → joined (map u16 xs) ≡ shorts_bytes xs
+unfolding shorts_bytes
 numbers_part [] = refl
 numbers_part (x ∷ xs) = ap (λ (bs : List ℕ). bytes_of 2 x ++ bs) (numbers_part xs)
 

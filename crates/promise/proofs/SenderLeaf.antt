@@ -1,6 +1,6 @@
 -- The leaf of a valid plain tree whose cube holds a point is the one that lookup reaches. Assumes nothing.
 use mathlib.Core.Path.{◌≡◌, refl, sym, ap, subst, ◌∙◌}
-use mathlib.Core.Bool.{Bool, true, false, not, cond}
+use mathlib.Core.Bool.{Bool, true, false, not}
 use mathlib.Core.Logic.{⊎_elim}
 use mathlib.Core.List.{List, ◌∷◌}
 use Prim.Native.Nat.{ℕ, zero, suc, ◌+◌, ◌-◌, ◌*◌, ◌/◌, ◌%◌, ◌<◌, ◌≤◌}
@@ -9,23 +9,23 @@ use native.Mathlib.Omega.{arith}
 use borrow.Author.Tests.{not-true}
 use lib.ListN.{length, get_or}
 use lib.Seq.{get_or-take}
+use Rattle.std.specs.Prelude.{Option, Some, None}
+use Rattle.std.specs.Option.{option_map}
+use Rattle.std.proofs.lemmas.Bool.{cases_eq, cond_both, true_from_ne_false, false_from_ne_true}
+use Rattle.remy.specs.declared.action.Action.{Action}
 use Rattle.remy.specs.declared.point.Point.{Point}
 use Rattle.remy.specs.declared.cube.Cube.{Cube}
 use Rattle.remy.specs.Cube.{root_of, contains_of, child_cube}
 use Rattle.rule_tree.specs.declared.Node.{Node}
-use Rattle.rule_tree.specs.declared.Looked.{Looked}
-use Rattle.rule_tree.specs.declared.Looked.TheVariants as looked
 use Rattle.rule_tree.specs.Nodes.{children_of, action_in}
 use Rattle.rule_tree.specs.Cubes.{split_nodes, cube_at, cube_of}
 use Rattle.rule_tree.specs.Walk.{leaf_of}
 use Rattle.rule_tree.specs.Calls.{found_in}
-use Rattle.rule_tree.proofs.Owners.{same_or_not}
 use Rattle.rule_tree.proofs.CubeSteps.{root_cube, step_cube}
 use Rattle.rule_tree_laws.proofs.Partition.{InOneLeaf, InNone, grown_one_leaf, grown_none}
-use Rattle.promise.specs.PlainTree.{Tree, nodes, member, is_leaf_of, rule_at, from, those, Choice, nobody, leaf}
+use Rattle.promise.specs.PlainTree.{Tree, nodes, member, is_leaf_of, rule_at, from, those}
 use Rattle.promise.specs.PlainSender.{cube_in, holding, leaf_at}
 use Rattle.promise.specs.SenderRuns.{OneLeaf}
-use Rattle.promise.proofs.Links.{no}
 use Rattle.promise.proofs.Embed.{embed_tree, ValidTree, leaf_below, leaf_unsplit, leaf_from, embed_length}
 use Rattle.promise.proofs.TreeGrown.{grown_embeds, splits_embed}
 use Rattle.promise.proofs.TreeKeeps.{children_is, leaf_node_lem}
@@ -45,7 +45,7 @@ cubes_same n ps qs root h low (suc d) i l =
     ∙ ap (λ (c : Cube). child_cube c ((i - 1) % 8)) (cubes_same n ps qs root h low d (get_or ps k 0) (omega (arith, low k b)))
     ∙ ap (λ (j : ℕ). child_cube (cube_at d qs root j) ((i - 1) % 8)) (h k b)
     ∙ sym (step_cube d qs root i m))
-    (same_or_not i 0)
+    (cases_eq i 0)
   where
     split_made : (i : ℕ) → (i ≡ 0 → ⊥) → i < 1 + 8 * n → (i - 1) / 8 < n
     split_made zero m l = absurd (m refl)
@@ -55,41 +55,33 @@ cubes_same n ps qs root h low (suc d) i l =
 abbrev in_cube : Tree → Point → ℕ → Bool
 in_cube t p i = contains_of (cube_in t i) p
 
-abbrev Says : Tree → Point → ℕ → ℕ → Choice → Type 0
-Says t p a n nobody = (i : ℕ) → a ≤ i → i < a + n → is_leaf_of t i ≡ true → in_cube t p i ≡ false
-Says t p a n (leaf i) = (is_leaf_of t i ≡ true) × (in_cube t p i ≡ true)
+abbrev Says : Tree → Point → ℕ → ℕ → Option ℕ → Type 0
+Says t p a n None = (i : ℕ) → a ≤ i → i < a + n → is_leaf_of t i ≡ true → in_cube t p i ≡ false
+Says t p a n (Some i) = (is_leaf_of t i ≡ true) × (in_cube t p i ≡ true)
 
 module _ (t : Tree) (p : Point) where
-  later : (a n : ℕ) (c : Choice) → (is_leaf_of t a ≡ true → in_cube t p a ≡ false) → Says t p (suc a) n c → Says t p a (suc n) c
-  later a n nobody e h =
+  later : (a n : ℕ) (c : Option ℕ) → (is_leaf_of t a ≡ true → in_cube t p a ≡ false) → Says t p (suc a) n c → Says t p a (suc n) c
+  later a n None e h =
       λ i b l k. ⊎_elim (λ (w : a ≡ i). subst (λ (j : ℕ). in_cube t p j ≡ false) w (e (subst (λ (j : ℕ). is_leaf_of t j ≡ true) (sym w) k)))
       (λ (w : a < i). h i (omega arith) (omega arith) k) (eq-or-lt_of_le b)
-  later a n (leaf i) e h = h
+  later a n (Some i) e h = h
 
   says : (n a : ℕ) → Says t p a n (holding t p (those (is_leaf_of t) (from a n)))
   unfolding holding those from
   says zero a = λ i b l k. absurd (omega arith)
-  says (suc n) a = go (is_leaf_of t a) refl (says n (suc a))
-    where
-      rest : List ℕ
-      rest = those (is_leaf_of t) (from (suc a) n)
-
-      held : (z : Bool) → is_leaf_of t a ≡ true → in_cube t p a ≡ z → Says t p (suc a) n (holding t p rest)
-          → Says t p a (suc n) (cond z (leaf a) (holding t p rest))
-      held true k e h = (k, e)
-      held false k e h = later a n (holding t p rest) (λ y. e) h
-
-      go : (z : Bool) → is_leaf_of t a ≡ z → Says t p (suc a) n (holding t p rest) → Says t p a (suc n) (holding t p (cond z (a ∷ rest) rest))
-      go true k h = held (in_cube t p a) k refl h
-      go false k h = later a n (holding t p rest) (λ y. absurd (no (is_leaf_of t a) y k)) h
+  says (suc n) a =
+      let rest = those (is_leaf_of t) (from (suc a) n) in
+      let h = says n (suc a) in
+      cond_both (is_leaf_of t a) (a ∷ rest) rest (λ (is : List ℕ). Says t p a (suc n) (holding t p is))
+      (λ k. cond_both (in_cube t p a) (Some a) (holding t p rest) (Says t p a (suc n)) (λ e. (k, e)) (λ e. later a n (holding t p rest) (λ y. e) h))
+      (λ k. later a n (holding t p rest) (λ y. cc (y, k)) h)
 
   pub leaf_says : Says t p 0 (nodes t) (leaf_at t p)
   leaf_says = says (nodes t) 0
 
 -- what lookup answers for a choice
-unfoldable pub looked_at : Tree → Choice → Looked
-looked_at t nobody = looked.Nothing
-looked_at t (leaf i) = looked.Found (rule_at t i).action
+abbrev pub looked_at : Tree → Option ℕ → Option Action
+looked_at t c = option_map (λ (i : ℕ). (rule_at t i).action) c
 
 module _ (t : Tree) (v : ValidTree t) where
   pub cube_embeds : (i : ℕ) → i < nodes t → cube_in t i ≡ cube_of (embed_tree t) i
@@ -124,56 +116,43 @@ module _ (t : Tree) (v : ValidTree t) where
         }
 
     -- "each point of the box": its leaf is found
-    pub leaf_inside : contains_of (root_of t.ends) p ≡ true → leaf_at t p ≡ leaf (leaf_of (embed_tree t) p)
+    pub leaf_inside : contains_of (root_of t.ends) p ≡ true → leaf_at t p ≡ Some (leaf_of (embed_tree t) p)
     leaf_inside e = go (leaf_at t p) (leaf_says t p)
       where
-        go : (c : Choice) → Says t p 0 (nodes t) c → c ≡ leaf (leaf_of (embed_tree t) p)
-        go nobody h =
+        go : (c : Option ℕ) → Says t p 0 (nodes t) c → c ≡ Some (leaf_of (embed_tree t) p)
+        go None h =
             let r = reached e in
             let i = leaf_of (embed_tree t) p in
-            absurd (no (in_cube t p i) r.inside (h i (omega arith) (omega (arith, leaf_below t i r.leaf)) r.leaf))
-        go (leaf j) h = ap leaf ((reached e).only j h.0 h.1)
+            cc (r.inside, h i (omega arith) (omega (arith, leaf_below t i r.leaf)) r.leaf)
+        go (Some j) h = ap (λ (i : ℕ). Some i) ((reached e).only j h.0 h.1)
 
-    pub leaf_outside : contains_of (root_of t.ends) p ≡ false → leaf_at t p ≡ nobody
+    pub leaf_outside : contains_of (root_of t.ends) p ≡ false → leaf_at t p ≡ None
     leaf_outside e = go (leaf_at t p) (leaf_says t p)
       where
-        go : (c : Choice) → Says t p 0 (nodes t) c → c ≡ nobody
-        go nobody h = refl
-        go (leaf j) h =
+        go : (c : Option ℕ) → Says t p 0 (nodes t) c → c ≡ None
+        go None h = refl
+        go (Some j) h =
             let l = leaf_below t j h.0 in
-            absurd (no (in_cube t p j) h.1 (sym (cube_holds j l) ∙ (none e).none j l))
+            cc (h.1, sym (cube_holds j l) ∙ (none e).none j l)
 
-    -- nobody exactly where the point is outside the root box
-    pub nobody_outside : leaf_at t p ≡ nobody → contains_of (root_of t.ends) p ≡ false
-    nobody_outside h = go (contains_of (root_of t.ends) p) refl
-      where
-        go : (b : Bool) → contains_of (root_of t.ends) p ≡ b → b ≡ false
-        go true e =
-            let q : leaf (leaf_of (embed_tree t) p) ≡ nobody = sym (leaf_inside e) ∙ h in
-            absurd (let z : ◌≡◌ {A = ℕ} 0 1 = cc in omega arith)
-        go false e = refl
+    -- none exactly where the point is outside the root box
+    pub none_outside : leaf_at t p ≡ None → contains_of (root_of t.ends) p ≡ false
+    none_outside h = false_from_ne_true (contains_of (root_of t.ends) p) (λ e. cc (leaf_inside e, h))
 
     -- a leaf exactly where it is the one whose cube holds the point
-    pub leaf_holds_lem : (i : ℕ) → leaf_at t p ≡ leaf i → OneLeaf t p i
-    leaf_holds_lem i h = go (contains_of (root_of t.ends) p) refl
-      where
-        go : (b : Bool) → contains_of (root_of t.ends) p ≡ b → OneLeaf t p i
-        go true e =
-            let q : leaf (leaf_of (embed_tree t) p) ≡ leaf i = sym (leaf_inside e) ∙ h in
-            let z : leaf_of (embed_tree t) p ≡ i = cc in
-            subst (OneLeaf t p) z (reached e)
-        go false e =
-            let q : leaf i ≡ nobody = sym h ∙ leaf_outside e in
-            absurd (let z : ◌≡◌ {A = ℕ} 0 1 = cc in omega arith)
+    pub leaf_holds_lem : (i : ℕ) → leaf_at t p ≡ Some i → OneLeaf t p i
+    leaf_holds_lem i h =
+        let e = true_from_ne_false (contains_of (root_of t.ends) p) (λ o. cc (leaf_outside o, h)) in
+        let z : leaf_of (embed_tree t) p ≡ i = cc (leaf_inside e, h) in
+        subst (OneLeaf t p) z (reached e)
 
     -- lookup finds that leaf's action, or nothing
     pub found_embeds : found_in (embed_tree t) p ≡ looked_at t (leaf_at t p)
-    unfolding looked_at
     found_embeds = go (contains_of (root_of t.ends) p) refl
       where
         go : (b : Bool) → contains_of (root_of t.ends) p ≡ b → found_in (embed_tree t) p ≡ looked_at t (leaf_at t p)
         go true e =
             (one_leaf e).found
-            ∙ ap (λ (x : Node). looked.Found (action_in x)) (leaf_node_lem t v (leaf_of (embed_tree t) p) (reached e).leaf)
+            ∙ ap (λ (x : Node). Some (action_in x)) (leaf_node_lem t v (leaf_of (embed_tree t) p) (reached e).leaf)
             ∙ ap (looked_at t) (sym (leaf_inside e))
         go false e = (none e).nothing ∙ ap (looked_at t) (sym (leaf_outside e))

@@ -1,22 +1,16 @@
 -- Every list of calls on a sender answers what the plain sender answers, and leaves the sender that the plain one stands for.
 -- Assumes nothing.
-use mathlib.Core.Path.{◌≡◌, refl, sym, ap, subst, ◌∙◌}
-use mathlib.Core.Bool.{Bool, true, false, cond}
+use mathlib.Core.Path.{◌≡◌, refl, ap, subst, ◌∙◌}
 use mathlib.Core.List.{List, [], ◌∷◌, map}
-use mathlib.Core.Logic.{◌≢◌}
-use Prim.Native.Nat.{ℕ}
-use borrow.Author.Tests.{eqb-true, eqb-false}
-use lib.Dec.{eqb}
 use Rattle.sender.specs.declared.Sender.{Sender}
-use Rattle.sender.specs.declared.Reply.TheVariants.{Taken, Refused}
 use Rattle.sender.specs.SenderCall.{SenderCall, ack, send, tick, over}
 use Rattle.promise.specs.PlainTree.{Tree}
-use Rattle.promise.specs.PlainSender.{PlainSender, state_of, Reaction, refuse, react}
+use Rattle.promise.specs.PlainSender.{PlainSender, state_of, react}
 use Rattle.rule_tree.specs.declared.RuleTree.{RuleTree}
-use Rattle.promise.specs.SenderRuns.{SenderEvent, event, SenderStep, after_reply, taken, sender_step, sender_events, sender_end, plain_start, plain_sender_events, plain_sender_end}
+use Rattle.promise.specs.SenderRuns.{SenderEvent, event, SenderStep, taken, sender_step, sender_events, sender_end, plain_start, plain_sender_events, plain_sender_end}
 use Rattle.promise.proofs.Embed.{embed_tree, ValidTree}
 use Rattle.promise.proofs.SenderRender.{start_renders}
-use Rattle.promise.proofs.SenderSteps.{held_of, reply_of, ack_step, send_step, tick_step, refused_stays}
+use Rattle.promise.proofs.SenderSteps.{plain_step, ack_step, send_step, tick_step}
 
 -- the calls over the trees that plain trees stand for
 abbrev pub embed_calls : List (SenderCall Tree) → List (SenderCall RuleTree)
@@ -42,36 +36,11 @@ over_all P Q f [] h = tt
 over_all P Q f (c ∷ cs) h = (ack_over P Q f c h.0, over_all P Q f cs h.1)
 
 -- ---- one call
-abbrev pub plain_step : Reaction → SenderStep
-plain_step o = record { sender = state_of o.sender; event = event o.refused o.window o.clipped }
-
-refused_step : (s : PlainSender) (o : Reaction) (n : ℕ) → o ≡ refuse n s → after_reply (state_of s) (Refused n) ≡ plain_step o
-unfolding after_reply
-refused_step s o n e = ap plain_step (sym e)
-
-taken_step : (s : PlainSender) (o : Reaction) → o.refused ≡ 0 → after_reply (state_of s) (Taken (held_of o)) ≡ plain_step o
-unfolding after_reply
-taken_step s o e = ap (λ (n : ℕ). record { sender = state_of o.sender; event = event n o.window o.clipped }) (sym e)
-
-reply_step : (s : PlainSender) (o : Reaction) → (o.refused ≢ 0 → o ≡ refuse o.refused s) → after_reply (state_of s) (reply_of o) ≡ plain_step o
-unfolding reply_of
-reply_step s o h = go (eqb o.refused 0) refl
-  where
-    go : (b : Bool) → eqb o.refused 0 ≡ b → after_reply (state_of s) (cond b (Taken (held_of o)) (Refused o.refused)) ≡ plain_step o
-    go true e = taken_step s o (eqb-true o.refused 0 e)
-    go false e = refused_step s o o.refused (h (eqb-false o.refused 0 e))
-
-tick_taken : (s : PlainSender) → taken (held_of (react s tick)) ≡ plain_step (react s tick)
-unfolding react
-tick_taken s = refl
-
 pub call_step : (s : PlainSender) (c : SenderCall Tree) → AckOver ValidTree c → sender_step (state_of s) (over embed_tree c) ≡ plain_step (react s c)
-unfolding sender_step over
-call_step s (ack t sent received draw) v =
-    let c = ack t sent received draw in
-    ap (after_reply (state_of s)) (ack_step t v s sent received draw) ∙ reply_step s (react s c) (refused_stays s c)
-call_step s (send at) v = ap (after_reply (state_of s)) (send_step s at) ∙ reply_step s (react s (send at)) (refused_stays s (send at))
-call_step s tick v = ap taken (tick_step s) ∙ tick_taken s
+unfolding sender_step over react
+call_step s (ack t sent received draw) v = ack_step t v s sent received draw
+call_step s (send at) v = send_step s at
+call_step s tick v = ap taken (tick_step s)
 
 -- ---- every list
 pub events_from_lem : (cs : List (SenderCall Tree)) → Over ValidTree cs → (s : PlainSender) → sender_events (state_of s) (embed_calls cs) ≡ plain_sender_events s cs

@@ -1,18 +1,21 @@
 -- The trainer that a state of the plain trainer stands for, and which states are valid. Assumes nothing.
 use mathlib.Core.Path.{◌≡◌}
 use mathlib.Core.Bool.{true, false}
+use mathlib.Core.List.{[]}
 use Prim.Native.Nat.{ℕ, ◌+◌, ◌<◌, ◌≤◌}
 use lib.ListN.{length}
 use lib.Ieee.{Float, lt}
+use Rattle.std.specs.Prelude.{Some, None, Result}
+use Rattle.refusal.specs.declared.Refusal.{Refusal}
 use Rattle.rule_tree.specs.declared.RuleTree.{RuleTree}
 use Rattle.trainer.specs.declared.settings.Settings.{Settings}
 use Rattle.trainer.specs.declared.Trainer.{Trainer}
-use Rattle.trainer.specs.declared.Answered.{Answered}
 use Rattle.trainer.specs.Settings.{settings_hold}
 use Rattle.trainer.specs.State.{stand, at_leaf_of, trying}
 use Rattle.promise.specs.PlainCandidates.{improvements}
 use Rattle.promise.specs.PlainTree.{Tree, is_leaf_of, rule_at}
-use Rattle.promise.specs.PlainTrainer.{State, Phase, Kept, nothing, just, phase1, phase2, phase3, phase4, phase5, phase6, phase7, Outcome, kept_number, kept_score_of}
+use Rattle.promise.specs.PlainTrainer.{State, Phase, Kept, phase1, phase2, phase3, phase4, phase5, phase6, phase7, Outcome, kept_number, kept_score_of}
+use Rattle.promise.specs.Demand3.{Step, after_call}
 use Rattle.promise.proofs.Embed.{embed_tree, ValidTree}
 
 abbrev pub embed_in : Settings → RuleTree → ℕ → ℕ → Phase → Trainer
@@ -27,9 +30,16 @@ embed_in s t i r phase7 = stand s t 7 i r
 abbrev pub embed : State → Trainer
 embed st = embed_in st.settings (embed_tree st.tree) st.stage st.round st.phase
 
--- what the trainer's call answers where the plain trainer's answers o
-abbrev pub answered : Outcome → Answered
-answered o = record { refused = o.refused; trainer = embed o.state }
+-- the trainer x stands for the state st
+abbrev pub Embeds : Trainer → State → Type 0
+Embeds x st = x ≡ embed st
+
+-- what a call that saves nothing does to the trainer that a state stands for, and what it does where the plain trainer's call does o
+abbrev pub answer_step : State → Result Trainer Refusal → Step
+answer_step st r = after_call (embed st) r 0 []
+
+abbrev pub plain_step : Outcome → Step
+plain_step o = record { trainer = embed o.state; refused = o.refused; size = length o.saved; saved = o.saved }
 
 -- ---- 01, "Accepted"
 -- "stage 1..=rule_splits, round 0 in phases 1, 2"
@@ -55,8 +65,8 @@ pub record AtLeaf (t : Tree) (i : ℕ) : Type 0 where
 
 -- "kept below k with score above best"
 abbrev pub KeptHolds : Float → ℕ → Kept → Type 0
-KeptHolds best k nothing = 0 ≤ k
-KeptHolds best k (just j y) = (j < k) × (lt best y ≡ true)
+KeptHolds best k None = 0 ≤ k
+KeptHolds best k (Some (j, y)) = (j < k) × (lt best y ≡ true)
 
 -- "in 5 k below the list's length"
 pub record Trying (s : Settings) (t : Tree) (leaf : ℕ) (best : Float) (k : ℕ) (kept : Kept) : Type 0 where

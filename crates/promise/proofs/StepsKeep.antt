@@ -1,6 +1,6 @@
 -- The plain trainer never leaves its valid states. Assumes nothing.
 use mathlib.Core.Path.{◌≡◌, refl, ap, ◌∙◌}
-use mathlib.Core.Bool.{Bool, true, false, not, ◌&&◌, cond}
+use mathlib.Core.Bool.{true, not, ◌&&◌, cond}
 use mathlib.Core.List.{List}
 use Prim.Native.Nat.{ℕ, ◌+◌, ◌<◌}
 use native.Mathlib.Omega.{arith}
@@ -9,13 +9,15 @@ use lib.Dec.{eqb, ltb, leb}
 use lib.ListN.{length, get_or}
 use lib.Seq.{get_or-set_same}
 use lib.Ieee.{Float, lt, le}
+use Rattle.std.specs.Prelude.{Option, Some, None}
+use Rattle.std.proofs.lemmas.Bool.{and_parts, cond_both}
+use Rattle.refusal.proofs.Guards.{either}
 use Rattle.remy.specs.declared.action.Action.{Action}
-use Rattle.rule_tree.proofs.Counting.{and_left, and_right}
 use Rattle.trainer.specs.declared.settings.Settings.{Settings}
 use Rattle.trainer.specs.Settings.{settings_hold}
 use Rattle.promise.specs.PlainCandidates.{improvements, no_candidate}
-use Rattle.promise.specs.PlainTree.{Tree, Rule, Choice, nobody, leaf, is_leaf_of, rule_at, leaves, unmarked_leaves, most_used, used, sum, counts_taken, split, set_action, mark, clear_marks}
-use Rattle.promise.specs.PlainTrainer.{State, Phase, Kept, nothing, just, phase1, phase2, phase3, phase4, phase5, phase6, phase7, Outcome, at, begin_round, become, refuse, split_chosen, answer1, answer2, answer3, try_all, keep, after_last, answer5, counted, scored, record_bytes, Call, counts, score, reload, change, step}
+use Rattle.promise.specs.PlainTree.{Tree, Rule, is_leaf_of, rule_at, leaves, unmarked_leaves, most_used, used, sum, counts_taken, split, set_action, clear_marks}
+use Rattle.promise.specs.PlainTrainer.{State, Phase, Kept, phase1, phase2, phase3, phase4, phase5, phase6, phase7, Outcome, at, begin_round, split_chosen, answer1, answer2, answer3, try_all, keep, after_last, answer5, counted, scored, record_bytes, Call, counts, score, reload, change, step}
 use Rattle.promise.specs.Values.{FitCall}
 use Rattle.promise.proofs.Embed.{ValidTree, leaf_below}
 use Rattle.promise.proofs.TreeSteps.{no_rule}
@@ -26,77 +28,61 @@ use Rattle.promise.proofs.Begins.{round_valid}
 use Rattle.promise.proofs.AnswerChange.{changed_valid}
 use Rattle.promise.proofs.States.{Splitting, Tuning, AtLeaf, KeptHolds, ValidState}
 
+-- a call leaves a valid state
+abbrev Stays : Outcome → Type 0
+Stays o = ValidState o.state
+
 -- ---- counts
 split_keeps :
-    (st : State) → ValidState st → (xs : List ℕ) (then : Tree → State) → ((u : Tree) → ValidTree u → u.ends ≡ st.tree.ends → ValidState (then u)) → (c : Choice)
+    (st : State) → ValidState st → (xs : List ℕ) (then : Tree → State) → ((u : Tree) → ValidTree u → u.ends ≡ st.tree.ends → ValidState (then u)) → (c : Option ℕ)
     → most_used xs (leaves st.tree) ≡ c → ValidState (split_chosen st c then).state
 unfolding split_chosen
-split_keeps st v xs then h nobody e = v
-split_keeps st v xs then h (leaf b) e = go (ltb (length st.tree.splits) 64) refl
-  where
-    go : (z : Bool) → ltb (length st.tree.splits) 64 ≡ z → ValidState (cond z (become (then (split st.tree b))) (refuse 20 st)).state
-    go true p =
-        h (split st.tree b) (split_valid st.tree v.tree b (chosen_leaf_lem st.tree xs b e) (ltb-true (length st.tree.splits) 64 p)) refl
-    go false p = v
+split_keeps st v xs then h None e = v
+split_keeps st v xs then h (Some b) e =
+    cond_both (ltb (length st.tree.splits) 64) _ _ Stays
+    (λ p. h (split st.tree b) (split_valid st.tree v.tree b (chosen_leaf_lem st.tree xs b e) (ltb-true (length st.tree.splits) 64 p)) refl) (λ p. v)
 
 module _ (s : Settings) (g : settings_hold s ≡ true) (t : Tree) (v : ValidTree t) (b : t.ends ≡ s.ends) (i r : ℕ) (xs : List ℕ) where
   keeps1 : Splitting s i r → ValidState (answer1 (at s t i r phase1) xs).state
   keeps1 h =
       split_keeps (at s t i r phase1) (record { settings = g; tree = v; box = b; phase = h }) xs
       (λ u. cond (s.drill_down && leb (used xs) 1) (at s u i r phase2) (begin_round s u i r))
-      (λ u w e. go u w (e ∙ b) (s.drill_down && leb (used xs) 1)) (most_used xs (leaves t)) refl
-    where
-      go : (u : Tree) → ValidTree u → u.ends ≡ s.ends → (z : Bool) → ValidState (cond z (at s u i r phase2) (begin_round s u i r))
-      go u w e true = record { settings = g; tree = w; box = e; phase = h }
-      go u w e false = round_valid s g u w e i r h.stage
+      (λ u w e. either ValidState (s.drill_down && leb (used xs) 1) (record { settings = g; tree = w; box = e ∙ b; phase = h })
+      (round_valid s g u w (e ∙ b) i r h.stage)) (most_used xs (leaves t)) refl
 
   keeps2 : Splitting s i r → ValidState (answer2 (at s t i r phase2) xs).state
-  keeps2 h = go (ltb 1 (used xs))
-    where
-      go :
-          (z : Bool)
-          → ValidState (cond z (become (begin_round s t i r)) (split_chosen (at s t i r phase2) (most_used xs (leaves t)) (λ u. at s u i r phase2))).state
-      go true = round_valid s g t v b i r h.stage
-      go false =
-          split_keeps (at s t i r phase2) (record { settings = g; tree = v; box = b; phase = h }) xs (λ u. at s u i r phase2)
-          (λ u w e. record { settings = g; tree = w; box = e ∙ b; phase = h }) (most_used xs (leaves t)) refl
+  keeps2 h =
+      either Stays (ltb 1 (used xs)) (round_valid s g t v b i r h.stage)
+      (split_keeps (at s t i r phase2) (record { settings = g; tree = v; box = b; phase = h }) xs (λ u. at s u i r phase2)
+      (λ u w e. record { settings = g; tree = w; box = e ∙ b; phase = h }) (most_used xs (leaves t)) refl)
 
-  keeps3 : Tuning s i r → (c : Choice) → most_used xs (unmarked_leaves t) ≡ c → ValidState (answer3 (at s t i r phase3) xs c)
+  keeps3 : Tuning s i r → (c : Option ℕ) → most_used xs (unmarked_leaves t) ≡ c → ValidState (answer3 (at s t i r phase3) xs c)
   unfolding answer3
-  keeps3 h nobody e = round_valid s g (clear_marks t) (clear_valid t v) b i (r + 1) h.stage
-  keeps3 h (leaf l) e = go (eqb (get_or xs l 0) 0 && not (eqb (sum xs) 0))
-    where
-      found : is_leaf_of t l && not (rule_at t l).marked ≡ true
-      found = chosen_unmarked t xs l e
-
-      go : (z : Bool) → ValidState (cond z (begin_round s (clear_marks t) i (r + 1)) (at s t i r (phase4 l)))
-      go true = round_valid s g (clear_marks t) (clear_valid t v) b i (r + 1) h.stage
-      go false =
-          record {
-            settings = g;
-            tree = v;
-            box = b;
-            phase = (h, record { leaf = and_left (is_leaf_of t l) _ found; unmarked = not-true (rule_at t l).marked (and_right (is_leaf_of t l) _ found) });
-          }
-
-or_refused : (st : State) → ValidState st → (n : ℕ) (b : Bool) (o : Outcome) → ValidState o.state → ValidState (cond b o (refuse n st)).state
-or_refused st v n true o h = h
-or_refused st v n false o h = v
+  keeps3 h None e = round_valid s g (clear_marks t) (clear_valid t v) b i (r + 1) h.stage
+  keeps3 h (Some l) e =
+      let found = and_parts (is_leaf_of t l) _ (chosen_unmarked t xs l e) in
+      either ValidState (eqb (get_or xs l 0) 0 && not (eqb (sum xs) 0))
+      (round_valid s g (clear_marks t) (clear_valid t v) b i (r + 1) h.stage)
+      (record {
+        settings = g;
+        tree = v;
+        box = b;
+        phase = (h, record { leaf = found.0; unmarked = not-true (rule_at t l).marked found.1 });
+      })
 
 counted_in_lem :
     (s : Settings) (t : Tree) (i r : ℕ) (p : Phase) → ValidState (at s t i r p) → (xs : List ℕ) → ValidState (counted (at s t i r p) xs p).state
 unfolding counted
 counted_in_lem s t i r phase1 v xs =
-    or_refused (at s t i r phase1) v 4 (counts_taken t xs) (answer1 (at s t i r phase1) xs) (keeps1 s v.settings t v.tree v.box i r xs v.phase)
+    either Stays (counts_taken t xs) (keeps1 s v.settings t v.tree v.box i r xs v.phase) v
 counted_in_lem s t i r phase2 v xs =
-    or_refused (at s t i r phase2) v 4 (counts_taken t xs) (answer2 (at s t i r phase2) xs) (keeps2 s v.settings t v.tree v.box i r xs v.phase)
+    either Stays (counts_taken t xs) (keeps2 s v.settings t v.tree v.box i r xs v.phase) v
 counted_in_lem s t i r phase3 v xs =
-    or_refused (at s t i r phase3) v 4 (counts_taken t xs) (become (answer3 (at s t i r phase3) xs (most_used xs (unmarked_leaves t))))
-    (keeps3 s v.settings t v.tree v.box i r xs v.phase (most_used xs (unmarked_leaves t)) refl)
+    either Stays (counts_taken t xs) (keeps3 s v.settings t v.tree v.box i r xs v.phase (most_used xs (unmarked_leaves t)) refl) v
 counted_in_lem s t i r (phase4 l) v xs = v
 counted_in_lem s t i r (phase5 l best k kept) v xs = v
 counted_in_lem s t i r phase6 v xs =
-    or_refused (at s t i r phase6) v 4 (counts_taken t xs) (become (at s t i r phase7)) (record { settings = v.settings; tree = v.tree; box = v.box; phase = v.phase })
+    either Stays (counts_taken t xs) (record { settings = v.settings; tree = v.tree; box = v.box; phase = v.phase }) v
 counted_in_lem s t i r phase7 v xs = v
 
 pub counted_valid : (st : State) → ValidState st → (xs : List ℕ) → ValidState (counted st xs st.phase).state
@@ -106,29 +92,17 @@ counted_valid st v xs = counted_in_lem st.settings st.tree st.stage st.round st.
 module _ (s : Settings) (g : settings_hold s ≡ true) (i r : ℕ) (h : Tuning s i r) (u : Tree) (p : Phase) where
   try_keeps : (t : Tree) → ValidTree t → t.ends ≡ s.ends → (l : ℕ) → AtLeaf t l → (best : Float) → ValidState (try_all (at s u i r p) t l best)
   unfolding try_all
-  try_keeps t v d l a best = go (eqb (length (improvements s (rule_at t l).action)) 0) refl
-    where
-      go :
-          (z : Bool) → eqb (length (improvements s (rule_at t l).action)) 0 ≡ z
-          → ValidState (cond z (at s (mark t l) i r phase3) (at s t i r (phase5 l best 0 nothing)))
-      go true e = record { settings = g; tree = mark_valid t v l a.leaf; box = d; phase = h }
-      go false e =
-          let n = eqb-false (length (improvements s (rule_at t l).action)) 0 e in
-          let c : 0 < length (improvements s (rule_at t l).action) = omega arith in
-          record { settings = g; tree = v; box = d; phase = (h, (a, record { below = c; held = omega arith })) }
+  try_keeps t v d l a best =
+      let n = length (improvements s (rule_at t l).action) in
+      cond_both (eqb n 0) _ _ ValidState (λ e. record { settings = g; tree = mark_valid t v l a.leaf; box = d; phase = h })
+      (λ e. record { settings = g; tree = v; box = d; phase = (h, (a, record { below = omega (arith, eqb-false n 0 e); held = omega arith })) })
 
 keep_holds : (best : Float) (k : ℕ) (x : Float) (kept : Kept) → KeptHolds best k kept → KeptHolds best (k + 1) (keep best k x kept)
 unfolding keep
-keep_holds best k x nothing h = go (lt best x) refl
-  where
-    go : (z : Bool) → lt best x ≡ z → KeptHolds best (k + 1) (cond z (just k x) nothing)
-    go true e = (omega arith, e)
-    go false e = omega arith
-keep_holds best k x (just j y) h = go (lt best x && le y x) refl
-  where
-    go : (z : Bool) → lt best x && le y x ≡ z → KeptHolds best (k + 1) (cond z (just k x) (just j y))
-    go true e = (omega arith, and_left (lt best x) (le y x) e)
-    go false e = (omega (arith, h.0), h.1)
+keep_holds best k x None h = cond_both (lt best x) (Some (k, x)) None (KeptHolds best (k + 1)) (λ e. (omega arith, e)) (λ e. omega arith)
+keep_holds best k x (Some (j, y)) h =
+    cond_both (lt best x && le y x) (Some (k, x)) (Some (j, y)) (KeptHolds best (k + 1)) (λ e. (omega arith, (and_parts (lt best x) (le y x) e).0))
+    (λ e. (omega (arith, h.0), h.1))
 
 module _
     (s : Settings) (g : settings_hold s ≡ true) (t : Tree) (v : ValidTree t) (d : t.ends ≡ s.ends) (i r : ℕ) (h : Tuning s i r) (l : ℕ) (a : AtLeaf t l)
@@ -138,8 +112,8 @@ module _
 
   last_keeps : (m : Kept) → KeptHolds best (k + 1) m → ValidState (after_last (at s t i r p) l m)
   unfolding after_last
-  last_keeps nothing q = record { settings = g; tree = mark_valid t v l a.leaf; box = d; phase = h }
-  last_keeps (just j y) q =
+  last_keeps None q = record { settings = g; tree = mark_valid t v l a.leaf; box = d; phase = h }
+  last_keeps (Some (j, y)) q =
       let c = get_or (improvements s (rule_at t l).action) j no_candidate in
       try_keeps s g i r h t p (set_action t l c)
       (action_valid t v l a.leaf c (candidate_valid s (rule_at t l).action j (omega (arith, q.0)) g)) d
@@ -147,19 +121,10 @@ module _
 
   tried_keeps : (m : Kept) → KeptHolds best (k + 1) m → ValidState (answer5 (at s t i r p) l best k m)
   unfolding answer5
-  tried_keeps m q = go (ltb (k + 1) (length (improvements s (rule_at t l).action))) refl
-    where
-      go :
-          (z : Bool) → ltb (k + 1) (length (improvements s (rule_at t l).action)) ≡ z
-          → ValidState (cond z (at s t i r (phase5 l best (k + 1) m)) (after_last (at s t i r p) l m))
-      go true e =
-          record {
-            settings = g;
-            tree = v;
-            box = d;
-            phase = (h, (a, record { below = ltb-true (k + 1) (length (improvements s (rule_at t l).action)) e; held = q }));
-          }
-      go false e = last_keeps m q
+  tried_keeps m q =
+      let n = length (improvements s (rule_at t l).action) in
+      cond_both (ltb (k + 1) n) _ _ ValidState
+      (λ e. record { settings = g; tree = v; box = d; phase = (h, (a, record { below = ltb-true (k + 1) n e; held = q })) }) (λ e. last_keeps m q)
 
 scored_in :
     (s : Settings) (t : Tree) (i r : ℕ) (p : Phase) → ValidState (at s t i r p) → (x : Float) → ValidState (scored (at s t i r p) x p).state
@@ -184,8 +149,4 @@ unfolding step
 step_valid st v (counts xs) h = counted_valid st v xs
 step_valid st v (score x) h = scored_valid st v x
 step_valid st v (change s) h = changed_valid st v s (record { acks = h.ends.acks; sends = h.ends.sends; ratios = h.ends.ratios })
-step_valid st v (reload buffer) h = go (leb (length (record_bytes st)) (length buffer))
-  where
-    go : (z : Bool) → ValidState (cond z (record { state = st; refused = 0; saved = record_bytes st }) (refuse 9 st)).state
-    go true = v
-    go false = v
+step_valid st v (reload buffer) h = either Stays (leb (length (record_bytes st)) (length buffer)) v v

@@ -61,7 +61,7 @@ cleared_at t j = go (ltb j (nodes t)) refl (member j t.splits) refl
         let o = link_owner 0 t.splits j q in
         node_used (clear_marks t) j b
         ∙ ap (λ (r : Rule). node_with r (link 0 t.splits j)) (cleared_parent t j b q)
-        ∙ sym (clear_parent (rule_at t j) (link 0 t.splits j) (λ e. absurd (omega (arith, o.gives))))
+        ∙ sym (clear_parent (rule_at t j) (link 0 t.splits j) (λ e. omega (arith, o.gives)))
         ∙ ap unmarked_node (sym (node_used t j b))
     go true p false q =
         let b = ltb-true j (nodes t) p in

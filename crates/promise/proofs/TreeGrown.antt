@@ -30,11 +30,11 @@ occurs_once :
 unfolding occurrences
 occurs_once x [] i l e h = absurd (omega arith)
 occurs_once x (c ∷ cs) zero l e h =
-    let a = occurrences_none x cs (λ j b p. absurd (let z = h (suc j) (omega arith) p in omega arith)) in
+    let a = occurrences_none x cs (λ j b p. omega (arith, h (suc j) (omega arith) p)) in
     rw (eq-eqb c x e) (omega arith)
 occurs_once x (c ∷ cs) (suc i) l e h =
     let a = occurs_once x cs i (omega arith) e (λ j b p. let z = h (suc j) (omega arith) p in omega arith) in
-    rw (ne_eqb c x (λ p. absurd (let z = h 0 (omega arith) p in omega arith))) (omega arith)
+    rw (ne_eqb c x (λ p. omega (arith, h 0 (omega arith) p))) (omega arith)
 
 owner_is :
     (n : ℕ) (cs : List ℕ) (f i : ℕ) → i < n → get_or cs i 0 ≡ f → ((j : ℕ) → j < n → get_or cs j 0 ≡ f → j ≡ i) → owner_below n cs f ≡ i
@@ -42,7 +42,7 @@ unfolding owner_below
 owner_is zero cs f i l e h = absurd (omega arith)
 owner_is (suc n) cs f i l e h =
     ⊎_elim (λ (p : i ≡ n). rw (eq-eqb (get_or cs n 0) f (subst (λ (m : ℕ). get_or cs m 0 ≡ f) p e)) (sym p))
-    (λ (q : i < n). rw (ne_eqb (get_or cs n 0) f (λ z. absurd (let w = h n (omega arith) z in omega arith)))
+    (λ (q : i < n). rw (ne_eqb (get_or cs n 0) f (λ z. omega (arith, h n (omega arith) z)))
     (owner_is n cs f i q e (λ j b p. h j (omega arith) p)))
     (eq-or-lt_of_le (omega arith))
 

@@ -1,6 +1,6 @@
 -- A valid plain tree stays valid, and what it says of its leaves is what the trainer's tree says. Assumes nothing.
 use mathlib.Core.Path.{◌≡◌, refl, sym, ap, subst, ◌∙◌}
-use mathlib.Core.Bool.{Bool, true, false, not, ◌&&◌, cond}
+use mathlib.Core.Bool.{Bool, true, false, not, ◌&&◌}
 use mathlib.Core.Logic.{⊎_elim, ◌≢◌}
 use mathlib.Core.List.{List, [], ◌∷◌}
 use Prim.Native.Nat.{ℕ, ◌+◌, ◌-◌, ◌*◌, ◌<◌, ◌≤◌}
@@ -10,6 +10,8 @@ use borrow.Author.Tests.{ne_eqb, ltb-true, ltb-false}
 use lib.Dec.{ltb, eqb}
 use lib.ListN.{length, get_or, set, take, replicate, length-append, length-set, length-map, length-replicate, get_or-append}
 use lib.Seq.{get_or-set_same, get_or-set_other, get_or-append_seam, take-append-le, take-append_seam}
+use Rattle.std.proofs.lemmas.Bool.{cases_eq}
+use Rattle.refusal.proofs.Guards.{either}
 use Rattle.remy.specs.declared.action.Action.{Action}
 use Rattle.remy.specs.declared.point.Point.{Point}
 use Rattle.remy.specs.Action.{valid_of}
@@ -19,7 +21,7 @@ use Rattle.rule_tree.specs.Grown.{ends_hold}
 use Rattle.rule_tree.specs.Calls.{leaf_in}
 use Rattle.rule_tree.proofs.Plain.{PointFits}
 use Rattle.promise.specs.PlainTree.{Tree, Rule, nodes, member, is_leaf_of, rule_at, unmarked, root_leaf, split, with_rules, set_action, mark, from, cleared_rule, clear_marks}
-use Rattle.promise.proofs.Links.{same_or, link, link_owner}
+use Rattle.promise.proofs.Links.{link, link_owner}
 use Rattle.promise.proofs.Embed.{leaf_node, embed_tree, ValidTree, leaf_below, leaf_unsplit, node_used, node_leaf, embed_at}
 use Rattle.promise.proofs.TreeSteps.{no_rule, new_rule}
 use Rattle.promise.proofs.TreeClears.{length_from, cleared_rule_lem}
@@ -33,7 +35,7 @@ module _ (t : Tree) (v : ValidTree t) (i : ℕ) where
       go true e =
           let o = link_owner 0 t.splits i e in
           ap (λ (x : Node). eqb x.children 0) (embed_at t i (omega (arith, v.few)) ∙ node_used t i b)
-          ∙ ne_eqb (link 0 t.splits i) 0 (λ z. absurd (omega (arith, o.gives)))
+          ∙ ne_eqb (link 0 t.splits i) 0 (λ z. omega (arith, o.gives))
       go false e = ap (λ (x : Node). eqb x.children 0) (embed_at t i (omega (arith, v.few)) ∙ node_leaf t i b e)
 
   pub leaf_embeds : leaf_in (embed_tree t) i ≡ is_leaf_of t i
@@ -84,7 +86,7 @@ module _ (t : Tree) (v : ValidTree t) (i : ℕ) (l : is_leaf_of t i ≡ true) wh
       (λ (p : j ≡ i). subst (λ (m : ℕ). valid_of (get_or (set t.rules i r) m no_rule).action ≡ true) (sym p)
       (ap (λ (x : Rule). valid_of x.action) (get_or-set_same t.rules i r no_rule (omega (arith, leaf_below t i l, v.sized))) ∙ h))
       (λ (n : j ≢ i). ap (λ (x : Rule). valid_of x.action) (get_or-set_other t.rules i j r no_rule n) ∙ v.actions j b)
-      (same_or j i))
+      (cases_eq j i))
 
   pub action_valid : (a : Action) → valid_of a ≡ true → ValidTree (set_action t i a)
   action_valid a h = stored_valid (record { action = a; marked = (rule_at t i).marked }) h
@@ -95,13 +97,8 @@ module _ (t : Tree) (v : ValidTree t) (i : ℕ) (l : is_leaf_of t i ≡ true) wh
 pub clear_valid : (t : Tree) → ValidTree t → ValidTree (clear_marks t)
 clear_valid t v =
     same_splits t (clear_marks t) v refl refl (length-map (from 0 (nodes t)) (cleared_rule t) ∙ length_from 0 (nodes t) ∙ sym v.sized)
-    (λ i l. ap (λ (r : Rule). valid_of r.action) (cleared_rule_lem t i l) ∙ go i (is_leaf_of t i) ∙ v.actions i l)
-  where
-    go :
-        (i : ℕ) (z : Bool)
-        → valid_of (cond z (unmarked (rule_at t i).action) (rule_at t i)).action ≡ valid_of (rule_at t i).action
-    go i true = refl
-    go i false = refl
+    (λ i l. ap (λ (r : Rule). valid_of r.action) (cleared_rule_lem t i l)
+    ∙ either (λ (r : Rule). valid_of r.action ≡ valid_of (rule_at t i).action) (is_leaf_of t i) refl refl ∙ v.actions i l)
 
 -- ---- one split more
 module _ (t : Tree) (v : ValidTree t) (i : ℕ) (l : is_leaf_of t i ≡ true) (r : length t.splits < 64) where

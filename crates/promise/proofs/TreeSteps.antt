@@ -10,6 +10,7 @@ use lib.Dec.{ltb}
 use lib.ListN.{length, get_or, set, replicate, length-append, length-set, get_or-replicate, get_or-append}
 use lib.Seq.{get_or-set_same, get_or-set_other, get_or-append-add}
 use lib.IntN.{pos}
+use Rattle.std.proofs.lemmas.Bool.{cases_eq, false_from_ne_true}
 use Rattle.remy.specs.declared.action.Action.{Action}
 use Rattle.remy.specs.Action.{action_of}
 use Rattle.remy.specs.declared.point.Point.{Point}
@@ -20,7 +21,7 @@ use Rattle.rule_tree.specs.Nodes.{no_node, node_at_of, leaf_with, linked_to, bla
 use Rattle.rule_tree.specs.Change.{fresh_tree, with_action, with_mark, split_at_of}
 use Rattle.rule_tree.proofs.Changing.{split_length, split_splits, split_ends, split_parent, split_child, split_other, fresh_length}
 use Rattle.promise.specs.PlainTree.{Tree, Rule, nodes, member, is_leaf_of, rule_at, unmarked, root_leaf, split, set_action, mark}
-use Rattle.promise.proofs.Links.{same_or, link, link_old, link_new, member_old}
+use Rattle.promise.proofs.Links.{link, link_old, link_new, member_old}
 use Rattle.promise.proofs.Embed.{node_with, leaf_node, node_of, embed_tree, ValidTree, leaf_below, leaf_unsplit, parent_below, node_used, node_leaf, node_blank, embed_at, embed_length, nodes_same, tree_same}
 
 abbrev pub no_rule : Rule
@@ -42,11 +43,7 @@ node_same t u i a b c = rw (a, b) (go (ltb i (nodes u)) refl)
 
 -- a node that no split has made is no parent
 pub new_unsplit : (t : Tree) → ValidTree t → (j : ℕ) → nodes t ≤ j → member j t.splits ≡ false
-new_unsplit t v j b = go (member j t.splits) refl
-  where
-    go : (z : Bool) → member j t.splits ≡ z → member j t.splits ≡ false
-    go true e = absurd (omega (arith, parent_below t j v e))
-    go false e = e
+new_unsplit t v j b = false_from_ne_true (member j t.splits) (λ e. omega (arith, parent_below t j v e))
 
 pub new_rule : (t : Tree) (i : ℕ) → ValidTree t → (k : ℕ) → k < 8 → rule_at (split t i) (8 * length t.splits + 1 + k) ≡ unmarked (rule_at t i).action
 new_rule t i v k b =
@@ -84,7 +81,7 @@ module _ (t : Tree) (i : ℕ) (v : ValidTree t) (l : is_leaf_of t i ≡ true) (r
   at_new k b =
       let j = 8 * length t.splits + 1 + k in
       let c = leaf_below t i l in
-      node_leaf (split t i) j (omega (arith, grown_nodes)) (member_old t.splits i j (λ e. absurd (omega arith)) ∙ new_unsplit t v j (omega arith))
+      node_leaf (split t i) j (omega (arith, grown_nodes)) (member_old t.splits i j (λ e. omega arith) ∙ new_unsplit t v j (omega arith))
       ∙ ap leaf_node (new_rule t i v k b)
       ∙ ap (λ (x : Node). leaf_with (action_in x)) (sym leaf_now)
       ∙ sym (split_child old i (omega (arith, embed_length t)) k b)
@@ -104,7 +101,7 @@ module _ (t : Tree) (i : ℕ) (v : ValidTree t) (l : is_leaf_of t i ≡ true) (r
   at_any : (j : ℕ) → j < 513 → node_of (split t i) j ≡ node_at_of (split_at_of old i).nodes j
   at_any j b =
       ⊎_elim (λ (p : j ≡ i). subst (λ (m : ℕ). node_of (split t i) m ≡ node_at_of (split_at_of old i).nodes m) (sym p) at_split)
-      (λ (n : j ≢ i). go n (ltb j (nodes t)) refl (ltb j (nodes t + 8)) refl) (same_or j i)
+      (λ (n : j ≢ i). go n (ltb j (nodes t)) refl (ltb j (nodes t + 8)) refl) (cases_eq j i)
     where
       go :
           j ≢ i → (x : Bool) → ltb j (nodes t) ≡ x → (y : Bool) → ltb j (nodes t + 8) ≡ y → node_of (split t i) j ≡ node_at_of (split_at_of old i).nodes j
@@ -138,7 +135,7 @@ module _ (t u : Tree) (i : ℕ) (v : ValidTree t) (l : is_leaf_of t i ≡ true) 
       (λ (n : j ≢ i). node_same u t j (ap (λ (ps : List ℕ). ltb j (1 + 8 * length ps)) e) (ap (λ (ps : List ℕ). link 0 ps j) e) (λ c. q j n)
       ∙ sym (embed_at t j b)
       ∙ sym (get_or-set_other (embed_tree t).nodes i j y no_node n))
-      (same_or j i)
+      (cases_eq j i)
 
   pub stored_embeds :
       leaf_node (rule_at u i) ≡ y → ((j : ℕ) → j ≢ i → rule_at u j ≡ rule_at t j)
@@ -180,7 +177,7 @@ root_at ends a j b =
     (λ (n : j ≢ 0). node_blank (root_leaf ends a) j (omega arith)
     ∙ sym (get_or-replicate 513 j blank_node no_node b)
     ∙ sym (get_or-set_other (replicate 513 blank_node) 0 j (leaf_with a) no_node n))
-    (same_or j 0)
+    (cases_eq j 0)
 
 pub root_embeds : (ends : Point) (a : Action) → embed_tree (root_leaf ends a) ≡ fresh_tree ends a
 root_embeds ends a =

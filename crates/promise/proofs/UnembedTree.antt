@@ -9,6 +9,7 @@ use borrow.Author.Tests.{eq-eqb, ltb-true, ltb-false}
 use lib.Dec.{eqb, ltb}
 use lib.ListN.{length, get_or, take}
 use lib.Seq.{get_or-take, length-take-le}
+use Rattle.std.proofs.lemmas.Bool.{or_right, cases_eq, false_from_ne_true}
 use Rattle.remy.specs.declared.action.Action.{Action}
 use Rattle.remy.specs.Action.{valid_of}
 use Rattle.rule_tree.specs.declared.Node.{Node}
@@ -21,11 +22,10 @@ use Rattle.rule_tree.specs.Calls.{leaf_in}
 use Rattle.rule_tree.proofs.Lists.{length_tabulate, get_d_tabulate}
 use Rattle.rule_tree.proofs.GrownTree.{child-at}
 use Rattle.rule_tree.proofs.GrownTree as tree
-use Rattle.rule_tree.proofs.Owners.{same_or_not}
 use Rattle.rule_tree.proofs.Plain.{ActionFits, PointFits, plain_action, plain_unmarked}
 use Rattle.rule_tree.proofs.Links.{grown_splits, grown_link, grown_split, grown_owner, grown_valid, grown_unused_leaf, grown_unused_plain, grown_ends_hold}
 use Rattle.promise.specs.PlainTree.{Tree, Rule, nodes, member, is_leaf_of, rule_at}
-use Rattle.promise.proofs.Links.{or_right, link, link_leaf, link_owner}
+use Rattle.promise.proofs.Links.{link, link_leaf, link_owner}
 use Rattle.promise.proofs.Embed.{node_with, node_of, embed_tree, ValidTree, leaf_from, node_used, node_blank, embed_at, embed_length, nodes_same, tree_same}
 use Rattle.promise.proofs.TreeSteps.{no_rule}
 
@@ -84,25 +84,15 @@ module _ (t : RuleTree) (g : grown_of t ≡ true) (full : length t.nodes ≡ 513
       ap (λ (i : ℕ). get_or cs i 0) (get_or-take t.splits (split_nodes cs) k 0 l ∙ o.split) ∙ o.is
 
   split_once : (k : ℕ) → k < t.splits → member (get_or (plain_tree t).splits k 0) (take k (plain_tree t).splits) ≡ false
-  split_once k l = go (member x (take k ps)) refl
-    where
-      cs : List ℕ
-      cs = children_of t.nodes
-
-      ps : List ℕ
-      ps = (plain_tree t).splits
-
-      x : ℕ
-      x = get_or ps k 0
-
-      go : (b : Bool) → member x (take k ps) ≡ b → b ≡ false
-      go true e =
-          let o = link_owner 0 (take k ps) x e in
-          let n = length-take-le k ps (omega (arith, splits_count t g)) in
-          let b : o.at < k = omega (arith, o.below) in
-          let q : get_or ps o.at 0 ≡ x = sym (get_or-take k ps o.at 0 b) ∙ o.is in
-          absurd (omega (arith, split_child o.at (omega arith), split_child k l, ap (λ (j : ℕ). get_or cs j 0) q))
-      go false e = refl
+  split_once k l =
+      let cs = children_of t.nodes in
+      let ps = (plain_tree t).splits in
+      false_from_ne_true (member (get_or ps k 0) (take k ps))
+      (λ e. let o = link_owner 0 (take k ps) (get_or ps k 0) e in
+      let n = length-take-le k ps (omega (arith, splits_count t g)) in
+      let b : o.at < k = omega (arith, o.below) in
+      let q : get_or ps o.at 0 ≡ get_or ps k 0 = sym (get_or-take k ps o.at 0 b) ∙ o.is in
+      omega (arith, split_child o.at (omega arith), split_child k l, ap (λ (j : ℕ). get_or cs j 0) q))
 
   -- ---- the nodes that were split are the parents
   member_child : (i : ℕ) → member i (plain_tree t).splits ≡ true → link 0 (plain_tree t).splits i ≡ (node_at_of t.nodes i).children
@@ -129,9 +119,8 @@ module _ (t : RuleTree) (g : grown_of t ≡ true) (full : length t.nodes ≡ 513
 
   unsplit_childless : (i : ℕ) → i < 513 → member i (plain_tree t).splits ≡ false → (node_at_of t.nodes i).children ≡ 0
   unsplit_childless i b m =
-      ⊎_elim (λ (z : (node_at_of t.nodes i).children ≡ 0). z)
-      (λ (n : (node_at_of t.nodes i).children ≡ 0 → ⊥). let z : ◌≡◌ {A = ℕ} 0 1 = cc (parent_member i b n) in absurd (omega arith))
-      (same_or_not (node_at_of t.nodes i).children 0)
+      ⊎_elim (λ (z : (node_at_of t.nodes i).children ≡ 0). z) (λ (n : (node_at_of t.nodes i).children ≡ 0 → ⊥). cc (parent_member i b n, m))
+      (cases_eq (node_at_of t.nodes i).children 0)
 
   link_children : (i : ℕ) → i < 513 → link 0 (plain_tree t).splits i ≡ (node_at_of t.nodes i).children
   link_children i b = go (member i (plain_tree t).splits) refl
@@ -141,11 +130,7 @@ module _ (t : RuleTree) (g : grown_of t ≡ true) (full : length t.nodes ≡ 513
       go false e = link_leaf 0 (plain_tree t).splits i e ∙ sym (unsplit_childless i b e)
 
   childless_unsplit : (i : ℕ) → (node_at_of t.nodes i).children ≡ 0 → member i (plain_tree t).splits ≡ false
-  childless_unsplit i z = go (member i (plain_tree t).splits) refl
-    where
-      go : (b : Bool) → member i (plain_tree t).splits ≡ b → b ≡ false
-      go true e = absurd (member_parent i e z)
-      go false e = refl
+  childless_unsplit i z = false_from_ne_true (member i (plain_tree t).splits) (λ e. member_parent i e z)
 
   pub leaf_back : (i : ℕ) → leaf_in t i ≡ true → is_leaf_of (plain_tree t) i ≡ true
   leaf_back i h =

@@ -8,6 +8,9 @@ use borrow.Author.Tests.{lt-ltb, ltb-true}
 use lib.Dec.{ltb}
 use lib.ListN.{length}
 use lib.Ieee.{Float}
+use Rattle.std.specs.Prelude.{Option}
+use Rattle.std.proofs.lemmas.Bool.{and_parts}
+use Rattle.std.proofs.lemmas.List.{map-append}
 use Rattle.remy.specs.declared.point.Point.{Point}
 use Rattle.remy.specs.declared.cube.Cube.{Cube}
 use Rattle.remy.specs.Cube.{root_of, contains_of}
@@ -17,9 +20,7 @@ use Rattle.rule_tree.specs.Grown.{grown_of}
 use Rattle.rule_tree.specs.Cubes.{cube_at, cube_of}
 use Rattle.rule_tree.specs.Walk.{leaf_of}
 use Rattle.rule_tree.proofs.Plain.{PointFits}
-use Rattle.rule_tree.proofs.Counting.{and_left, and_right}
 use Rattle.rule_tree_laws.proofs.Partition.{grown_one_leaf, grown_none, lookup_found, lookup_nothing}
-use Rattle.sender.specs.declared.Draw.{Draw}
 use Rattle.sender.specs.declared.Sender.{Sender}
 use Rattle.sender.specs.SenderCall.{SenderCall, ack, send, tick, over}
 use Rattle.promise.specs.PlainTree.{Tree}
@@ -30,8 +31,8 @@ use Rattle.promise.proofs.Embed.{embed_tree, ValidTree, leaf_below, embed_length
 use Rattle.promise.proofs.TreeGrown.{grown_embeds}
 use Rattle.promise.proofs.TreeKeeps.{leaf_embeds, leaf_node_lem}
 use Rattle.promise.proofs.SenderLeaf.{cube_embeds}
-use Rattle.promise.proofs.SenderRender.{map_more}
-use Rattle.promise.proofs.SenderRun.{embed_calls, AckOver, Over, plain_step, sender_agrees, next_step}
+use Rattle.promise.proofs.SenderSteps.{plain_step}
+use Rattle.promise.proofs.SenderRun.{embed_calls, AckOver, Over, sender_agrees, next_step}
 use Rattle.promise.proofs.SenderAck.{plain_ack, plain_send, plain_tick, refused_unmoved, send_unmoved, tick_unmoved}
 
 -- ---- trees
@@ -47,15 +48,15 @@ module _ (t : RuleTree) (g : grown_of t ≡ true) (n : length t.nodes ≡ 513) (
         leaf = rw (lt-ltb (leaf_of t p) (node_count t.splits) o.node) o.leaf;
         inside = o.inside;
         only = λ j l c.
-            o.only j (ltb-true j (node_count t.splits) (and_left (ltb j (node_count t.splits)) (is_leaf_of t.nodes j) l))
-            (and_right (ltb j (node_count t.splits)) (is_leaf_of t.nodes j) l) c;
+            let p = and_parts (ltb j (node_count t.splits)) (is_leaf_of t.nodes j) l in
+            o.only j (ltb-true j (node_count t.splits) p.0) p.1 c;
         found = lookup_found t g n f p e;
       }
 
   pub in_no_leaf : contains_of (root_of t.ends) p ≡ false → InNoLeaf t p
   in_no_leaf e =
       record {
-        none = λ j l. (grown_none t g n f p e).none j (ltb-true j (node_count t.splits) (and_left (ltb j (node_count t.splits)) (is_leaf_of t.nodes j) l));
+        none = λ j l. (grown_none t g n f p e).none j (ltb-true j (node_count t.splits) (and_parts (ltb j (node_count t.splits)) (is_leaf_of t.nodes j) l).0);
         nothing = lookup_nothing t g n f p e;
       }
 
@@ -117,7 +118,7 @@ module _ (trees : ℕ → RuleTree) (plains : ℕ → Tree) (alike : (k : ℕ) �
         sym (rw (calls_embed ws, call_embeds w) (next_step start (calls_over plains ws) (calls_over_lem ws) (over plains w) (call_over w)))
 
     pub way_ack :
-        (k : ℕ) (sent received : Float) (draw : Draw)
+        (k : ℕ) (sent received : Float) (draw : Option ℕ)
         → AckHolds (sender_before plains start ws) (plains k) sent received draw (one_more_of trees start ws (ack k sent received draw))
     unfolding over
     way_ack k sent received draw =
@@ -134,7 +135,7 @@ module _ (trees : ℕ → RuleTree) (plains : ℕ → Tree) (alike : (k : ℕ) �
 
     -- one call more on the plain side
     before_more : (w : SenderCall ℕ) → (react (sender_before plains start ws) (over plains w)).sender ≡ sender_before plains start (ws ++ (w ∷ []))
-    before_more w = sym (ap (plain_sender_end (plain_start start)) (map_more (over plains) ws w) ∙ end_more (calls_over plains ws) (over plains w) (plain_start start))
+    before_more w = sym (ap (plain_sender_end (plain_start start)) (map-append (over plains) ws (w ∷ [])) ∙ end_more (calls_over plains ws) (over plains w) (plain_start start))
 
     passing-unmoved :
         (w : SenderCall ℕ) → Passing w (one_more_of trees start ws w)

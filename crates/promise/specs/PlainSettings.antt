@@ -1,5 +1,5 @@
 -- Document 01's starts in its own words: the settings that a trainer takes, the modes that a sender takes, and the fresh sender.
-use Rattle.std.specs.Prelude.{Bool, true, ◌&&◌, leb, length, pos, negsuc, Float}
+use Rattle.std.specs.Prelude.{Bool, true, ◌&&◌, leb, length, pos, negsuc, Float, None}
 use Rattle.std.specs.Int.Signed.{le_z, lt_z}
 use Rattle.std.specs.Float.{binary64}
 use Rattle.std.specs.Float.Ieee.{lt, le, of_int}
@@ -8,10 +8,6 @@ use Rattle.quantities.specs.Time.{span}
 use Rattle.remy.specs.declared.action.Action.{Action}
 use Rattle.remy.specs.Cube as cube
 use Rattle.trainer.specs.declared.settings.Settings.{Settings}
-use Rattle.sender.specs.declared.Moment.TheVariants.{Never}
-use Rattle.sender.specs.declared.Average.TheVariants.{Empty}
-use Rattle.sender.specs.declared.Rtt.TheVariants.{Unknown}
-use Rattle.sender.specs.declared.Pending.TheVariants.{Idle}
 use Rattle.sender.specs.declared.RepeatMode.{RepeatMode}
 use Rattle.sender.specs.declared.RepeatMode.TheVariants.{Off, Always, Between}
 use Rattle.sender.specs.declared.Sender.{Sender}
@@ -69,14 +65,14 @@ mode_taken (Between lo hi) = leb lo hi && leb hi 4294967294
 abbrev pub fresh_start : RepeatMode → Sender
 fresh_start mode =
     record {
-      last_ack = Never;
-      last_ack_send = Never;
-      ack_ewma = Empty;
-      send_ewma = Empty;
-      rtt = Unknown;
-      next_change = Idle;
+      last_ack = None;
+      last_ack_send = None;
+      ack_ewma = None;
+      send_ewma = None;
+      rtt = None;
+      next_change = None;
       repeat_actions = mode;
-      last_send = Never;
+      last_send = None;
       window = 1;
       intersend_delay = span cube.zero;
     }

@@ -1,19 +1,18 @@
 -- Document 01's plain trainer: its state, one step for each phase, and its record.
-use Rattle.std.specs.Prelude.{Bool, true, false, not, ◌&&◌, cond, List, [], ◌∷◌, ◌++◌, ℕ, ◌+◌, length, get_or, eqb, ltb, leb, pos, Float}
+use Rattle.std.specs.Prelude.{Bool, true, false, not, ◌&&◌, cond, List, [], ◌∷◌, ◌++◌, ℕ, ◌+◌, length, get_or, eqb, ltb, leb, pos, Float, Option, Some, None}
 use Rattle.std.specs.Float.{binary64}
 use Rattle.std.specs.Float.Ieee.{div, eq, lt, le, of_int}
 use Rattle.remy.specs.declared.action.Action.{Action}
 use Rattle.remy.specs.Cube as cube
 use Rattle.trainer.specs.declared.settings.Settings.{Settings}
 use Rattle.promise.specs.PlainCandidates.{improvements, no_candidate}
-use Rattle.promise.specs.PlainTree.{Tree, Choice, nobody, leaf, root_leaf, rule_at, split, set_action, mark, clear_marks, leaves, unmarked_leaves, most_used, used, sum, counts_taken}
+use Rattle.promise.specs.PlainTree.{Tree, root_leaf, rule_at, split, set_action, mark, clear_marks, leaves, unmarked_leaves, most_used, used, sum, counts_taken}
 use Rattle.promise.specs.PlainSettings.{settings_taken}
 use Rattle.promise.specs.PlainRecord.{joined, byte, u16, u32, bits8, settings_part, ends_part, tree_part}
 
--- "the kept candidate with its score, or none"
-pub data Kept : Type 0 where
-  nothing : Kept
-  just : ℕ → Float → Kept
+-- "the kept candidate with its score, or none": its number, then the score
+abbrev pub Kept : Type 0
+Kept = Option (ℕ × Float)
 
 -- "phase; in phases 4 and 5 the leaf; in phase 5 also best, candidate k, and the kept candidate with its score, or none"
 pub data Phase : Type 0 where
@@ -59,9 +58,9 @@ abbrev pub become : State → Outcome
 become st = record { state = st; refused = 0; saved = [] }
 
 -- "split the most used", or 20: "a 65th split"
-unfoldable pub split_chosen : State → Choice → (Tree → State) → Outcome
-split_chosen st nobody then = refuse 20 st
-split_chosen st (leaf i) then = cond (ltb (length st.tree.splits) 64) (become (then (split st.tree i))) (refuse 20 st)
+unfoldable pub split_chosen : State → Option ℕ → (Tree → State) → Outcome
+split_chosen st None then = refuse 20 st
+split_chosen st (Some i) then = cond (ltb (length st.tree.splits) 64) (become (then (split st.tree i))) (refuse 20 st)
 
 abbrev pub split_most_used : State → List ℕ → (Tree → State) → Outcome
 split_most_used st counts then = split_chosen st (most_used counts (leaves st.tree)) then
@@ -84,9 +83,9 @@ abbrev pub next_round : State → State
 next_round st = begin_round st.settings (clear_marks st.tree) st.stage (st.round + 1)
 
 -- "3, counts: most used unmarked leaf. None, or its count is 0 and the total isn't: clear marks, round+1, begin round. Else phase 4"
-unfoldable pub answer3 : State → List ℕ → Choice → State
-answer3 st counts nobody = next_round st
-answer3 st counts (leaf i) =
+unfoldable pub answer3 : State → List ℕ → Option ℕ → State
+answer3 st counts None = next_round st
+answer3 st counts (Some i) =
     cond (eqb (get_or counts i 0) 0 && not (eqb (sum counts) 0)) (next_round st)
     (at st.settings st.tree st.stage st.round (phase4 i))
 
@@ -101,18 +100,18 @@ candidates st t i = improvements st.settings (rule_at t i).action
 unfoldable pub try_all : State → Tree → ℕ → Float → State
 try_all st t i best =
     cond (eqb (length (candidates st t i)) 0) (mark_and_go_on st t i)
-    (at st.settings t st.stage st.round (phase5 i best 0 nothing))
+    (at st.settings t st.stage st.round (phase5 i best 0 None))
 
 -- "kept if above best and no lower than the one kept"
 unfoldable pub keep : Float → ℕ → Float → Kept → Kept
-keep best k x nothing = cond (lt best x) (just k x) nothing
-keep best k x (just j y) = cond (lt best x && le y x) (just k x) (just j y)
+keep best k x None = cond (lt best x) (Some (k, x)) None
+keep best k x (Some (j, y)) = cond (lt best x && le y x) (Some (k, x)) (Some (j, y))
 
 -- "After the last: one kept becomes the action, its score best, new candidates from 0 (none: mark, phase 3); none kept: mark, phase 3"
 unfoldable pub after_last : State → ℕ → Kept → State
 unfolding try_all
-after_last st i nothing = mark_and_go_on st st.tree i
-after_last st i (just j y) = try_all st (set_action st.tree i (get_or (candidates st st.tree i) j no_candidate)) i y
+after_last st i None = mark_and_go_on st st.tree i
+after_last st i (Some (j, y)) = try_all st (set_action st.tree i (get_or (candidates st st.tree i) j no_candidate)) i y
 
 -- "5, score of candidate k"
 unfoldable pub answer5 : State → ℕ → Float → ℕ → Kept → State
@@ -186,12 +185,12 @@ changed st s =
 
 -- ---- the record, "its state written as above"
 unfoldable pub kept_number : Kept → ℕ
-kept_number nothing = 65535
-kept_number (just j y) = j
+kept_number None = 65535
+kept_number (Some (j, y)) = j
 
 unfoldable pub kept_score_of : Kept → Float
-kept_score_of nothing = cube.zero
-kept_score_of (just j y) = y
+kept_score_of None = cube.zero
+kept_score_of (Some (j, y)) = y
 
 -- "phase byte; u32 stage, round; u16 leaf; best 8; u16 k; u16 kept (65535 none); kept's score 8"
 abbrev pub state_bytes : State → ℕ → ℕ → Float → ℕ → Kept → List ℕ
@@ -202,13 +201,13 @@ state_bytes st phase i best k kept =
 -- "Fields a phase doesn't use are 0, kept 65535"
 unfoldable pub phase_bytes : State → Phase → List ℕ
 unfolding kept_number kept_score_of
-phase_bytes st phase1 = state_bytes st 1 0 cube.zero 0 nothing
-phase_bytes st phase2 = state_bytes st 2 0 cube.zero 0 nothing
-phase_bytes st phase3 = state_bytes st 3 0 cube.zero 0 nothing
-phase_bytes st (phase4 i) = state_bytes st 4 i cube.zero 0 nothing
+phase_bytes st phase1 = state_bytes st 1 0 cube.zero 0 None
+phase_bytes st phase2 = state_bytes st 2 0 cube.zero 0 None
+phase_bytes st phase3 = state_bytes st 3 0 cube.zero 0 None
+phase_bytes st (phase4 i) = state_bytes st 4 i cube.zero 0 None
 phase_bytes st (phase5 i best k kept) = state_bytes st 5 i best k kept
-phase_bytes st phase6 = state_bytes st 6 0 cube.zero 0 nothing
-phase_bytes st phase7 = state_bytes st 7 0 cube.zero 0 nothing
+phase_bytes st phase6 = state_bytes st 6 0 cube.zero 0 None
+phase_bytes st phase7 = state_bytes st 7 0 cube.zero 0 None
 
 -- the version byte, 3, and what follows it
 abbrev pub body : State → List ℕ

@@ -1,5 +1,5 @@
 -- Document 01's tree, in its own words: a list of the nodes that were split, one rule a node, and the upper ends of its root.
-use Rattle.std.specs.Prelude.{Bool, true, false, not, ◌&&◌, ◌||◌, cond, List, [], ◌∷◌, ◌++◌, map, ℕ, zero, suc, ◌+◌, ◌*◌, length, get_or, set, replicate, eqb, ltb, leb, pos}
+use Rattle.std.specs.Prelude.{Bool, true, false, not, ◌&&◌, ◌||◌, cond, List, [], ◌∷◌, ◌++◌, map, ℕ, zero, suc, ◌+◌, ◌*◌, length, get_or, set, replicate, eqb, ltb, leb, pos, Option, Some, None}
 use Rattle.remy.specs.declared.action.Action.{Action}
 use Rattle.remy.specs.declared.point.Point.{Point}
 use Rattle.remy.specs.Action.{action_of}
@@ -72,19 +72,15 @@ those keep (x ∷ xs) = cond (keep x) (x ∷ those keep xs) (those keep xs)
 abbrev pub leaves : Tree → List ℕ
 leaves t = those (is_leaf_of t) (from 0 (nodes t))
 
-pub data Choice : Type 0 where
-  nobody : Choice
-  leaf : ℕ → Choice
-
--- the more used of i and what the later nodes gave
-unfoldable pub or_later : List ℕ → ℕ → Choice → Choice
-or_later counts i nobody = leaf i
-or_later counts i (leaf j) = cond (ltb (get_or counts j 0) (get_or counts i 0)) (leaf i) (leaf j)
+-- the more used of i and what the later nodes gave, if any
+unfoldable pub or_later : List ℕ → ℕ → Option ℕ → Option ℕ
+or_later counts i None = Some i
+or_later counts i (Some j) = cond (ltb (get_or counts j 0) (get_or counts i 0)) (Some i) (Some j)
 
 -- "Most used: greatest count, ties to the highest node"
-unfoldable pub most_used : List ℕ → List ℕ → Choice
+unfoldable pub most_used : List ℕ → List ℕ → Option ℕ
 unfolding or_later
-most_used counts [] = nobody
+most_used counts [] = None
 most_used counts (i ∷ is) = or_later counts i (most_used counts is)
 
 -- "the same among unmarked leaves, or none if all are marked"

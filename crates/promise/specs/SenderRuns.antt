@@ -1,16 +1,15 @@
 -- Demand 3's lists on one sender: acks, sends and ticks, each getting what the last one left, and what is compared of each.
-use Rattle.std.specs.Prelude.{◌≡◌, Bool, true, false, List, [], ◌∷◌, ℕ}
+use Rattle.std.specs.Prelude.{◌≡◌, Bool, true, false, List, [], ◌∷◌, ℕ, Option, Some, None, Result, Ok, Err}
+use Rattle.refusal.specs.declared.Refusal.{Refusal}
+use Rattle.refusal.specs.Numbers.{number_of}
 use Rattle.remy.specs.declared.action.Action.{Action}
 use Rattle.remy.specs.declared.point.Point.{Point}
 use Rattle.remy.specs.Action.{window_of}
 use Rattle.remy.specs.Cube.{root_of, contains_of}
 use Rattle.rule_tree.specs.declared.RuleTree.{RuleTree}
-use Rattle.sender.specs.declared.Pending.TheVariants.{Idle, Repeat}
-use Rattle.sender.specs.declared.Draw.{Draw}
+use Rattle.sender.specs.declared.Repeat.{Repeat}
 use Rattle.sender.specs.declared.Sender.{Sender}
 use Rattle.sender.specs.declared.Held.{Held}
-use Rattle.sender.specs.declared.Reply.{Reply}
-use Rattle.sender.specs.declared.Reply.TheVariants as reply
 use Rattle.sender.specs.Sender.{ack_of, send_of, tick_of}
 use Rattle.sender.specs.SenderCall.{SenderCall, ack, send, tick}
 use Rattle.promise.specs.PlainTree.{Tree, is_leaf_of, rule_at}
@@ -35,9 +34,9 @@ abbrev pub taken : Held → SenderStep
 taken h = record { sender = h.sender; event = event 0 h.window h.clipped }
 
 -- "A refusal returns its number only; .. senders .. stay"
-unfoldable pub after_reply : Sender → Reply → SenderStep
-after_reply s (reply.Taken h) = taken h
-after_reply s (reply.Refused k) = record { sender = s; event = event k 0 false }
+unfoldable pub after_reply : Sender → Result Held Refusal → SenderStep
+after_reply s (Ok h) = taken h
+after_reply s (Err r) = record { sender = s; event = event (number_of r) 0 false }
 
 unfoldable pub sender_step : Sender → SenderCall RuleTree → SenderStep
 unfolding after_reply
@@ -86,18 +85,18 @@ pub record SetBy (s : plain.PlainSender) (a : Action) (o : SenderStep) : Type 0 
 
 -- no repeat is pending and the point is outside the root box
 abbrev pub Outside : plain.PlainSender → Tree → Point → Type 0
-Outside s t p = (plain.pending_now s ≡ Idle) × (contains_of (root_of t.ends) p ≡ false)
+Outside s t p = (plain.pending_now s ≡ None) × (contains_of (root_of t.ends) p ≡ false)
 
 -- no repeat is pending, the point is in the root box, and a due draw is absent or outside
-abbrev pub Undrawn : plain.PlainSender → Tree → Point → Draw → Type 0
+abbrev pub Undrawn : plain.PlainSender → Tree → Point → Option ℕ → Type 0
 Undrawn s t p draw =
-    (plain.pending_now s ≡ Idle)
+    (plain.pending_now s ≡ None)
     × ((contains_of (root_of t.ends) p ≡ true) × (plain.draw_fails s.start.repeat_actions draw ≡ true))
 
-pub record AckDoes (s : plain.PlainSender) (t : Tree) (p : Point) (draw : Draw) (o : SenderStep) : Type 0 where
+pub record AckDoes (s : plain.PlainSender) (t : Tree) (p : Point) (draw : Option ℕ) (o : SenderStep) : Type 0 where
   pub refused_22 : (o.event.refused ≡ 22 → Outside s t p) × (Outside s t p → o.event.refused ≡ 22)
   pub refused_5 : (o.event.refused ≡ 5 → Undrawn s t p draw) × (Undrawn s t p draw → o.event.refused ≡ 5)
-  pub repeated : (n : ℕ) (a : Action) → plain.pending_now s ≡ Repeat n a → SetBy s a o
+  pub repeated : (r : Repeat) → plain.pending_now s ≡ Some r → SetBy s r.action o
   pub looked :
-      plain.pending_now s ≡ Idle → contains_of (root_of t.ends) p ≡ true → plain.draw_fails s.start.repeat_actions draw ≡ false
+      plain.pending_now s ≡ None → contains_of (root_of t.ends) p ≡ true → plain.draw_fails s.start.repeat_actions draw ≡ false
       → (i : ℕ) × (OneLeaf t p i × SetBy s (rule_at t i).action o)

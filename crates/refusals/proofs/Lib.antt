@@ -2,12 +2,7 @@ pub mod Ways
 pub mod Trees
 pub mod Records
 pub mod Trainers
-pub mod TrainersKept
 pub mod Senders
-pub mod SendersKept
-pub mod Panels
-pub mod TrainersGive
-pub mod SendersGive
-pub mod AcksGive
+pub mod Acks
 pub mod SmallTrees
 pub mod EvenRows

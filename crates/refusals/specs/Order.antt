@@ -1,7 +1,9 @@
--- 01, "Refused for the input, refused for the state": what it is to refuse by a list of tests, and the tests of those calls whose definition is no such list.
-use Rattle.std.specs.Prelude.{◌≡◌, Bool, true, false, not, ◌&&◌, ◌||◌, List, [], ◌∷◌, ℕ, length, eqb, leb, Float}
-use Rattle.refusal.specs.Numbers.{bad_counts, bad_settings, full_tree, no_draw, no_leaf, no_rule, not_admitted, not_asked, not_grown}
-use Rattle.refusal.specs.Guards.{Test, test, first_of}
+-- 01, "Refused for the input, refused for the state": what it is to refuse by a list of checks, and the checks of those calls whose definition is no such list.
+use Rattle.std.specs.Prelude.{◌≡◌, Bool, true, false, not, ◌&&◌, ◌||◌, List, [], ◌∷◌, ℕ, length, eqb, leb, Float, Option, None, Some, Result, Ok, Err}
+use Rattle.std.specs.Option.{is_some}
+use Rattle.refusal.specs.declared.Refusal.{Refusal}
+use Rattle.refusal.specs.declared.Refusal.TheVariants.{BadCounts, BadSettings, FullTree, NoDraw, NoLeaf, NoRule, NotAdmitted, NotAsked, NotGrown}
+use Rattle.refusal.specs.Guards.{Check, check, checked, first_refused}
 use Rattle.quantities.specs.Time.{moment, read_moment, admitted}
 use Rattle.remy.specs.declared.action.Action.{Action}
 use Rattle.remy.specs.declared.point.Point.{Point}
@@ -9,7 +11,7 @@ use Rattle.remy.specs.Action.{valid_of}
 use Rattle.remy.specs.Cube.{root_of, contains_of}
 use Rattle.rule_tree.specs.declared.Node.{Node}
 use Rattle.rule_tree.specs.declared.RuleTree.{RuleTree}
-use Rattle.rule_tree.specs.Nodes.{node_count}
+use Rattle.rule_tree.specs.Nodes.{node_count, most_splits}
 use Rattle.rule_tree.specs.Grown.{grown_of}
 use Rattle.rule_tree.specs.Counts.{counts_hold, used_in}
 use Rattle.rule_tree.specs.Calls.{leaf_in}
@@ -17,73 +19,68 @@ use Rattle.rule_tree_view.specs.View.{parents_in, lent_tree}
 use Rattle.trainer.specs.declared.Trainer.{Trainer}
 use Rattle.trainer.specs.State.{accepted_of}
 use Rattle.trainer.specs.Calls.{wants_counts}
-use Rattle.sender.specs.declared.Pending.{Pending}
-use Rattle.sender.specs.declared.Pending.TheVariants.{Idle, Repeat}
 use Rattle.sender.specs.declared.RepeatMode.{RepeatMode}
 use Rattle.sender.specs.declared.RepeatMode.TheVariants.{Off, Always, Between}
-use Rattle.sender.specs.declared.Draw.{Draw}
-use Rattle.sender.specs.declared.Draw.TheVariants.{Absent, Given}
 use Rattle.sender.specs.declared.Sender.{Sender}
 use Rattle.sender.specs.Memory.{remembered, point_of}
 use Rattle.sender.specs.Sender.{mode_holds}
+use Rattle.refusals.specs.Told.{result_told}
 
--- no test fails: the call is taken
-abbrev pub passes : List Test → Bool
-passes ts = eqb (first_of ts) 0
+-- what the caller of a call that hands a value back then has: that value, or where the call is refused its own still
+unfoldable pub left_after : {A : Type 0} → A → Result A Refusal → A
+left_after came (Ok x) = x
+left_after came (Err r) = came
 
--- r is refused by the first test that fails, and then what it was given is left as it came
-pub record Guarded {A B : Type 0} (ts : List Test) (number : A → ℕ) (left : A → B) (came : B) (r : A) : Type 0 where
-  pub first : number r ≡ first_of ts
-  pub keeps : (number r ≡ 0 → ⊥) → left r ≡ came
+-- r is refused by the first check that fails, and then leaves what the caller had as it came; where none fails it hands back the value after
+pub record Guarded {A : Type 0} (ts : List Check) (after : A) (r : Result A Refusal) : Type 0 where
+  pub first : (result_told r).number ≡ first_refused ts
+  pub answers : r ≡ checked ts (Ok after)
+  pub keeps : (came : A) → ((result_told r).number ≡ 0 → ⊥) → left_after came r ≡ came
 
 -- ---- the view
 -- "node slice, not grown from the root leaf by splits"
-abbrev pub view_order : List Node → Point → ℕ → Action → List Test
+abbrev pub view_order : List Node → Point → ℕ → Action → List Check
 view_order nodes ends leaf a =
-    test (eqb (length nodes) (node_count (parents_in nodes))) not_grown ∷ test (grown_of (lent_tree nodes ends)) not_grown
-    ∷ test (leaf_in (lent_tree nodes ends) leaf) no_leaf ∷ test (valid_of a) not_admitted ∷ []
+    check (eqb (length nodes) (node_count (parents_in nodes))) NotGrown ∷ check (grown_of (lent_tree nodes ends)) NotGrown
+    ∷ check (leaf_in (lent_tree nodes ends) leaf) NoLeaf ∷ check (valid_of a) NotAdmitted ∷ []
 
 -- ---- the trainer: "21, 4, 20"
 -- the counts make a trainer split: in phase 1, and in phase 2 with at most one count above 0
 abbrev pub splits_on : Trainer → List ℕ → Bool
 splits_on t xs = eqb t.phase 1 || (eqb t.phase 2 && leb (used_in xs) 1)
 
-abbrev pub answer_counts_order : Trainer → List ℕ → List Test
+abbrev pub answer_counts_order : Trainer → List ℕ → List Check
 answer_counts_order t xs =
-    test (accepted_of t) not_grown ∷ test (wants_counts t.phase) not_asked ∷ test (counts_hold t.tree xs) bad_counts
-    ∷ test (not (splits_on t xs && leb 64 t.tree.splits)) full_tree ∷ []
+    check (accepted_of t) NotGrown ∷ check (wants_counts t.phase) NotAsked ∷ check (counts_hold t.tree xs) BadCounts
+    ∷ check (not (splits_on t xs && leb most_splits t.tree.splits)) FullTree ∷ []
 
 -- ---- moments and the sender: "1, 22, 5"
-abbrev pub admit_order : Float → List Test
-admit_order x = test (admitted x) not_admitted ∷ []
+abbrev pub admit_order : Float → List Check
+admit_order x = check (admitted x) NotAdmitted ∷ []
 
-abbrev pub made_order : RepeatMode → List Test
-made_order mode = test (mode_holds mode) bad_settings ∷ []
-
--- "With a repeat pending its action is used, no lookup"
-unfoldable pub repeats : Pending → Bool
-repeats Idle = false
-repeats (Repeat left a) = true
+abbrev pub made_order : RepeatMode → List Check
+made_order mode = check (mode_holds mode) BadSettings ∷ []
 
 -- "5 a due draw absent or outside lo..=hi (one not due is ignored; off and always n, none is due)"
-unfoldable pub draw_holds : RepeatMode → Draw → Bool
+unfoldable pub draw_holds : RepeatMode → Option ℕ → Bool
 draw_holds Off draw = true
 draw_holds (Always n) draw = true
-draw_holds (Between lo hi) Absent = false
-draw_holds (Between lo hi) (Given n) = leb lo n && leb n hi
+draw_holds (Between lo hi) None = false
+draw_holds (Between lo hi) (Some n) = leb lo n && leb n hi
 
 -- the point that an ack makes
 abbrev pub ack_point : Sender → Float → Float → Point
 ack_point s sent received = point_of (remembered s (moment (read_moment sent)) (moment (read_moment received)))
 
-abbrev pub ack_order : RuleTree → Sender → Float → Float → Draw → List Test
+-- "With a repeat pending its action is used, no lookup"
+abbrev pub ack_order : RuleTree → Sender → Float → Float → Option ℕ → List Check
 ack_order t s sent received draw =
-    test (grown_of t) not_grown ∷ test (admitted sent && admitted received) not_admitted
-    ∷ test (repeats s.next_change || contains_of (root_of t.ends) (ack_point s sent received)) no_rule
-    ∷ test (repeats s.next_change || draw_holds s.repeat_actions draw) no_draw ∷ []
+    check (grown_of t) NotGrown ∷ check (admitted sent && admitted received) NotAdmitted
+    ∷ check (is_some s.next_change || contains_of (root_of t.ends) (ack_point s sent received)) NoRule
+    ∷ check (is_some s.next_change || draw_holds s.repeat_actions draw) NoDraw ∷ []
 
-abbrev pub send_order : Float → List Test
-send_order at = test (admitted at) not_admitted ∷ []
+abbrev pub send_order : Float → List Check
+send_order at = check (admitted at) NotAdmitted ∷ []
 
-abbrev pub wake_order : Float → List Test
-wake_order now = test (admitted now) not_admitted ∷ []
+abbrev pub wake_order : Float → List Check
+wake_order now = check (admitted now) NotAdmitted ∷ []

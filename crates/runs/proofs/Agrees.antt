@@ -8,24 +8,26 @@ use borrow.Author.Tests.{le-leb}
 use lib.ListN.{length, take, drop, replicate, length-replicate}
 use lib.Seq.{take_at}
 use lib.Ieee.{Float}
+use Rattle.rule_tree_laws.proofs.Partition.{looked_up}
+use Rattle.std.specs.Prelude.{Option, Some, None, Result, Ok, Err}
+use Rattle.refusal.specs.declared.Refusal.{Refusal}
+use Rattle.refusal.specs.declared.Refusal.TheVariants.{BadSettings, ShortBuffer}
+use Rattle.refusal.specs.Numbers.{number_of}
+use Rattle.refusal.specs.Guards.{and_then}
+use Rattle.remy.specs.declared.action.Action.{Action}
 use Rattle.remy.specs.declared.point.Point.{Point}
 use Rattle.rule_tree.specs.declared.RuleTree.{RuleTree}
-use Rattle.rule_tree.specs.Grown.{grown_of}
-use Rattle.rule_tree.specs.Calls.{found_in, lookup_of}
+use Rattle.rule_tree.specs.Calls.{lookup_of}
 use Rattle.trainer.specs.declared.settings.Settings.{Settings}
 use Rattle.trainer.specs.declared.Trainer.{Trainer}
 use Rattle.trainer.specs.Settings.{settings_hold}
 use Rattle.trainer.specs.Calls.{start_of, question_of}
-use Rattle.record.specs.declared.Saved.TheVariants.{Size, Refused}
 use Rattle.record.specs.Calls.{save_of, buffer_after}
-use Rattle.sender.specs.declared.Draw.{Draw}
 use Rattle.sender.specs.declared.RepeatMode.{RepeatMode}
 use Rattle.sender.specs.declared.Sender.{Sender}
-use Rattle.sender.specs.declared.Made.{Made}
-use Rattle.sender.specs.declared.Made.TheVariants as made
 use Rattle.sender.specs.Sender.{fresh_sender, new_of}
 use Rattle.promise.specs.PlainSettings.{mode_taken, fresh_start}
-use Rattle.promise.specs.PlainTree.{Tree, Choice, nobody, leaf}
+use Rattle.promise.specs.PlainTree.{Tree}
 use Rattle.promise.specs.PlainTrainer.{State, Call, Asked, wants_counts, wants_score, finished, record_bytes, step, start, question}
 use Rattle.promise.specs.PlainSender.{PlainSender, state_of, leaf_at, react}
 use Rattle.promise.specs.Values.{Every, FitSettings, FitCall}
@@ -49,11 +51,12 @@ use Rattle.promise.proofs.SenderRun.{AckOver, call_step}
 use Rattle.runs.specs.Script.{settings, fresh, mode, handed_in, Item, train, ack, send, tick, lookup, calls_of}
 use Rattle.runs.specs.SenderWords.{sender_words}
 use Rattle.runs.specs.Compared.{asked_words, outcome_words, reaction_words, found_words, compared_from, sender_taken, first_sender, compared_with, compared_of}
-use Rattle.runs.specs.Ran.{question_words, step_words, move_words, looked_words, end_words, ran_from, made_of, ran_made, ran_with, ran_of}
+use Rattle.runs.specs.declared.State.{State as Begun}
+use Rattle.runs.specs.Ran.{question_words, step_words, move_words, looked_words, end_words, ran_from, made_of, begun_of, ran_begun, ran_of}
 use Rattle.runs.proofs.WordsFit.{settings_fit_lem, FitItem, calls_fit}
 
 -- ---- the question
-asked_same : (a : Asked) → question_words (shown_as a) ≡ asked_words a
+asked_same : (a : Asked) → question_words (Ok (shown_as a)) ≡ asked_words a
 unfolding question_words shown_as asked_words
 asked_same (wants_counts x) = refl
 asked_same (wants_score i a x) = refl
@@ -63,14 +66,10 @@ question_agrees : (st : State) → ValidState st → question_words (question_of
 question_agrees st v = ap question_words (question_embeds st v) ∙ asked_same (question st)
 
 -- ---- a lookup
-found_same : (t : Tree) (c : Choice) → looked_words (looked_at t c) ≡ found_words t c
-unfolding looked_words looked_at found_words
-found_same t nobody = refl
-found_same t (leaf i) = refl
-
-grown_lookup : (t : RuleTree) (p : Point) → grown_of t ≡ true → lookup_of t p ≡ found_in t p
-unfolding lookup_of
-grown_lookup t p g = rw g
+found_same : (t : Tree) (c : Option ℕ) → looked_words (Ok (looked_at t c)) ≡ found_words t c
+unfolding looked_words found_words
+found_same t None = refl
+found_same t (Some i) = refl
 
 tree_embeds : (st : State) → (embed st).tree ≡ embed_tree st.tree
 tree_embeds st = tree_of st.settings (embed_tree st.tree) st.stage st.round st.phase
@@ -78,14 +77,14 @@ tree_embeds st = tree_of st.settings (embed_tree st.tree) st.stage st.round st.p
 lookup_agrees : (st : State) → ValidState st → (p : Point) → looked_words (lookup_of (embed st).tree p) ≡ found_words st.tree (leaf_at st.tree p)
 lookup_agrees st v p =
     ap (λ (t : RuleTree). looked_words (lookup_of t p)) (tree_embeds st)
-    ∙ ap looked_words (grown_lookup (embed_tree st.tree) p (grown_embeds st.tree v.tree) ∙ found_embeds st.tree v.tree p)
+    ∙ ap looked_words (looked_up (embed_tree st.tree) p (grown_embeds st.tree v.tree) ∙ ap Ok (found_embeds st.tree v.tree p))
     ∙ found_same st.tree (leaf_at st.tree p)
 
 -- ---- the record at the end: 172 + 170 s bytes for at most 64 splits, which the buffer holds
 abbrev buffer : List ℕ
 buffer = replicate 16388 0
 
-end_size : (t : Trainer) (n : ℕ) → end_words t (Size n) ≡ n ∷ take n (buffer_after t buffer (Size n))
+end_size : (t : Trainer) (n : ℕ) → end_words t (Ok n) ≡ n ∷ take n (buffer_after t buffer (Ok n))
 unfolding end_words
 end_size t n = refl
 
@@ -93,10 +92,10 @@ module _ (st : State) (v : ValidState st) (f : FitState st) where
   record_small : length (record_bytes st) ≤ length buffer
   record_small = omega (arith, record_length st v f, v.tree.few, length-replicate {A = ℕ} 16388 0)
 
-  saves_whole : save_of (embed st) buffer ≡ Size (length (record_bytes st))
+  saves_whole : save_of (embed st) buffer ≡ Ok (length (record_bytes st))
   saves_whole =
       save_embeds st v buffer
-      ∙ ap (λ (b : Bool). cond b (Size (length (record_bytes st))) (Refused 9)) (le-leb (length (record_bytes st)) (length buffer) record_small)
+      ∙ ap (λ (b : Bool). cond b (Ok (length (record_bytes st))) (Err ShortBuffer)) (le-leb (length (record_bytes st)) (length buffer) record_small)
 
   end_agrees : end_words (embed st) (save_of (embed st) buffer) ≡ length (record_bytes st) ∷ record_bytes st
   end_agrees =
@@ -128,7 +127,7 @@ module _ (is : List Item) (st : State) (s : PlainSender) (v : ValidState st) (f 
       ∙ ap (λ (ws : List ℕ). reaction_words (react s c) ++ ws) e
 
   ack-agrees :
-      (sent received : Float) (draw : Draw)
+      (sent received : Float) (draw : Option ℕ)
       → let c = runs.ack st.tree sent received draw in
       let o = sender_step (state_of s) (runs.ack (embed st).tree sent received draw) in
       ran_from (embed st) (state_of (react s c).sender) is ≡ compared_from st (react s c).sender is
@@ -181,51 +180,64 @@ from_agrees (lookup p ∷ is) st s v f h = lookup-then is st s v f p (from_agree
 -- ---- from the start on
 start_agrees :
     (s : Settings) (x : Sender) (is : List Item) → settings_hold s ≡ true → FitSettings s → Every FitItem is
-    → question_words (question_of (start_of s).trainer) ++ ran_from (start_of s).trainer x is
+    → question_words (question_of (embed (start s))) ++ ran_from (embed (start s)) x is
     ≡ asked_words (question (start s)) ++ compared_from (start s) (plain_start x) is
 start_agrees s x is k f h =
-    ap (λ (t : Trainer). question_words (question_of t) ++ ran_from t x is) (starts_alike s k)
-    ∙ ap (λ (ws : List ℕ). ws ++ ran_from (embed (start s)) x is) (question_agrees (start s) (start_valid s k (point-fits f.ends)))
+    ap (λ (ws : List ℕ). ws ++ ran_from (embed (start s)) x is) (question_agrees (start s) (start_valid s k (point-fits f.ends)))
     ∙ ap (λ (y : Sender). asked_words (question (start s)) ++ ran_from (embed (start s)) y is) (sym (start_renders x))
     ∙ ap (λ (ws : List ℕ). asked_words (question (start s)) ++ ws)
     (from_agrees is (start s) (plain_start x) (start_valid s k (point-fits f.ends)) (start_fits s k f) h)
 
+-- what a start gives, by its two parts
+abbrev both : Result Trainer Refusal → Result Sender Refusal → Result Begun Refusal
+both trainer sender = and_then trainer (λ t. and_then sender (λ s. Ok (record { trainer = t; sender = s })))
+
+not_started : (s : Settings) → settings_hold s ≡ false → start_of s ≡ Err BadSettings
+unfolding start_of
+not_started s h = rw h
+
+-- the sender of the start, or its refusal
+abbrev sender_or : Bool → Sender → Result Sender Refusal
+sender_or taken x = cond taken (Ok x) (Err BadSettings)
+
 with_agrees :
-    (s : Settings) (m : Made) (taken : Bool) (x : Sender) (is : List Item) → m ≡ cond taken (made.Ready x) (made.Refused 2) → FitSettings s
-    → Every FitItem is → ran_with s m is ≡ compared_with s taken x is
-unfolding ran_with ran_made compared_with
-with_agrees s m taken x is e f h =
-    go (settings_hold s) refl taken e ∙ ap (λ (a : Bool). cond (a && taken) (0 ∷ compared) (2 ∷ [])) (sym (settings_same s))
+    (s : Settings) (taken : Bool) (x : Sender) (is : List Item) → FitSettings s → Every FitItem is
+    → ran_begun (both (start_of s) (sender_or taken x)) is ≡ compared_with s taken x is
+unfolding ran_begun compared_with number_of
+with_agrees s taken x is f h =
+    go (settings_hold s) refl taken ∙ ap (λ (a : Bool). cond (a && taken) (0 ∷ compared) (2 ∷ [])) (sym (settings_same s))
   where
     compared : List ℕ
     compared = asked_words (question (start s)) ++ compared_from (start s) (plain_start x) is
 
     go :
-        (a : Bool) → settings_hold s ≡ a → (b : Bool) → m ≡ cond b (made.Ready x) (made.Refused 2)
-        → cond a (ran_made s m is) (2 ∷ []) ≡ cond (a && b) (0 ∷ compared) (2 ∷ [])
-    go true k true z = ap (λ (y : Made). ran_made s y is) z ∙ ap (λ (ws : List ℕ). 0 ∷ ws) (start_agrees s x is k f h)
-    go true k false z = ap (λ (y : Made). ran_made s y is) z
-    go false k b z = refl
+        (a : Bool) → settings_hold s ≡ a → (b : Bool)
+        → ran_begun (both (start_of s) (sender_or b x)) is ≡ cond (a && b) (0 ∷ compared) (2 ∷ [])
+    go true k true =
+        ap (λ (t : Result Trainer Refusal). ran_begun (both t (Ok x)) is) (starts_alike s k)
+        ∙ ap (λ (ws : List ℕ). 0 ∷ ws) (start_agrees s x is k f h)
+    go true k false = ap (λ (t : Result Trainer Refusal). ran_begun (both t (Err BadSettings)) is) (starts_alike s k)
+    go false k b = ap (λ (t : Result Trainer Refusal). ran_begun (both t (sender_or b x)) is) (not_started s k)
 
 -- the sender of the start
-new_is : (m : RepeatMode) → new_of m ≡ cond (mode_taken m) (made.Ready (fresh_start m)) (made.Refused 2)
+new_is : (m : RepeatMode) → new_of m ≡ sender_or (mode_taken m) (fresh_start m)
 unfolding new_of
 new_is m =
-    ap (λ (b : Bool). cond b (made.Ready (fresh_sender m)) (made.Refused 2)) (sym (mode_same m))
-    ∙ ap (λ (x : Sender). cond (mode_taken m) (made.Ready x) (made.Refused 2)) (sym (fresh_same m))
+    ap (λ (b : Bool). sender_or b (fresh_sender m)) (sym (mode_same m)) ∙ ap (λ (x : Sender). sender_or (mode_taken m) x) (sym (fresh_same m))
 
-made_is : (script : List ℕ) → made_of script ≡ cond (sender_taken script) (made.Ready (first_sender script)) (made.Refused 2)
+made_is : (script : List ℕ) → made_of script ≡ sender_or (sender_taken script) (first_sender script)
 unfolding made_of
 made_is script = go (fresh script)
   where
     go :
         (b : Bool)
-        → cond b (new_of (mode script)) (made.Ready (handed_in script))
-        ≡ cond (cond b (mode_taken (mode script)) true) (made.Ready (cond b (fresh_start (mode script)) (handed_in script))) (made.Refused 2)
+        → cond b (new_of (mode script)) (Ok (handed_in script))
+        ≡ sender_or (cond b (mode_taken (mode script)) true) (cond b (fresh_start (mode script)) (handed_in script))
     go true = new_is (mode script)
     go false = refl
 
 pub agrees : (script : List ℕ) → ran_of script ≡ compared_of script
+unfolding begun_of
 agrees script =
-    with_agrees (settings script) (made_of script) (sender_taken script) (first_sender script) (calls_of script) (made_is script)
-    (settings_fit_lem script) (calls_fit script)
+    ap (λ (m : Result Sender Refusal). ran_begun (both (start_of (settings script)) m) (calls_of script)) (made_is script)
+    ∙ with_agrees (settings script) (sender_taken script) (first_sender script) (calls_of script) (settings_fit_lem script) (calls_fit script)

@@ -1,7 +1,6 @@
 pub mod Putting
 pub mod SenderPuts
 pub mod Reading
-pub mod SenderReads
 pub mod Filling
 pub mod Turning
 pub mod Looping

@@ -1,202 +1,89 @@
--- The loop over the calls of a script, and its start. Assumes nothing.
-use mathlib.Core.Path.{◌≡◌, refl, sym, ap, ◌∙◌}
-use mathlib.Core.Bool.{Bool, true, false, cond}
+-- The loop over the calls of a script. Assumes nothing.
+use mathlib.Core.Path.{◌≡◌, sym, ap, ◌∙◌}
+use mathlib.Core.Bool.{false}
 use mathlib.Core.List.{List, [], ◌∷◌, ◌++◌}
 use mathlib.Core.Logic.{⊎_elim}
-use Prim.Native.Nat.{ℕ, ◌+◌, ◌-◌, ◌<◌, ◌≤◌, min}
+use Prim.Native.Nat.{ℕ, ◌-◌, ◌<◌, ◌≤◌, min}
 use native.Mathlib.Omega.{arith}
-use borrow.Author.Tests.{ne_eqb}
 use lib.ListN.{length, take, drop, replicate, length-drop, drop_of_length-le}
-use lib.Seq.{drop-drop, take_all}
-use Rattle.trainer.specs.declared.settings.Settings.{Settings}
+use lib.Seq.{take_all}
+use Rattle.std.specs.Prelude.{Result, Ok}
+use Rattle.std.proofs.lemmas.Bool.{cases_lt}
+use Rattle.refusal.specs.declared.Refusal.{Refusal}
 use Rattle.trainer.specs.declared.Trainer.{Trainer}
-use Rattle.trainer.specs.declared.Answered.{Answered}
 use Rattle.trainer.specs.declared.Question.{Question}
-use Rattle.trainer.specs.Settings.{settings_hold}
-use Rattle.trainer.specs.Calls.{start_of, question_of}
+use Rattle.trainer.specs.Calls.{question_of}
 use Rattle.record.specs.Calls.{save_of}
-use Rattle.sender.specs.declared.RepeatMode.{RepeatMode}
 use Rattle.sender.specs.declared.Sender.{Sender}
-use Rattle.sender.specs.declared.Made.{Made}
-use Rattle.sender.specs.declared.Made.TheVariants as made
-use Rattle.sender.specs.Sender.{new_of}
 use Rattle.runs.specs.declared.State.{State}
-use Rattle.runs.specs.Script.{word, item_of, items_of, size_of, settings, mode, handed_in, calls_of}
+use Rattle.runs.specs.declared.words.Writer.{Writer}
+use Rattle.runs.specs.Script.{Item, items_of, size_of, whole_of, calls_of}
 use Rattle.runs.specs.SenderWords.{sender_words}
-use Rattle.runs.specs.Ran.{question_words, end_words, ran_from, made_of, ran_made, ran_with, ran_of}
-use Rattle.runs.specs.Turn.{Puts, First, turn_of, Makes, whole_size}
-use Rattle.runs.proofs.Putting.{lt_or_le, fits, then, spelt, Rest}
-use Rattle.runs.proofs.Reading.{stands, stands_size, ended, next_call}
+use Rattle.runs.specs.Ran.{question_words, end_words, ran_from, begun_of, ran_begun, ran_of}
+use Rattle.runs.specs.Writing.{Appends}
+use Rattle.runs.specs.Turn.{First, turn_of, Makes}
+use Rattle.runs.proofs.Putting.{join, as_words}
+use Rattle.runs.proofs.Reading.{stands_from, no_calls, next_call}
 use Rattle.runs.proofs.Turning.{ran_more}
 
-abbrev pub words_from : List ℕ → State → ℕ → List ℕ
-words_from script r p = ran_from r.trainer r.sender (items_of (length script) (drop p script))
+-- where the loop stands: n is enough for the words that are left, and once the words of their calls are put, all are
+pub record Stood (n : ℕ) (u : Writer) (all : List ℕ) (r : State) (w : Writer) (ws : List ℕ) : Type 0 where
+  pub enough : length ws ≤ n
+  pub rest : {v : Writer} → Appends w (ran_from r.trainer r.sender (items_of n ws)) v → Appends u all v
 
-module _ (Whole : ℕ → List ℕ → Type 0) (script : List ℕ) (r : State) (p size : ℕ) (is : size ≡ whole_size (drop p script)) where
+-- ---- the first call's place
+lent_from : (script : List ℕ) (p : ℕ) → take (length script - p) (drop p script) ≡ drop p script
+lent_from script p = take_all (length script - p) (drop p script) (rw length-drop (omega arith))
+
+past_start : (script : List ℕ) → drop (min (length script) 46) script ≡ drop 46 script
+past_start script = ⊎_elim inside past (cases_lt 46 (length script))
+  where
+    inside : 46 < length script → drop (min (length script) 46) script ≡ drop 46 script
+    inside h = ap (λ (k : ℕ). drop k script) (let e : min (length script) 46 ≡ 46 = omega arith in e)
+
+    past : length script ≤ 46 → drop (min (length script) 46) script ≡ drop 46 script
+    past h = drop_of_length-le script {i = min (length script) 46} (omega arith) ∙ sym (drop_of_length-le script h)
+
+pub stood_first : (script : List ℕ) (r : State) (w : Writer) {p : ℕ} → p ≡ min (length script) 46
+    → Stood (length script) w (ran_from r.trainer r.sender (calls_of script)) r w (take (length script - p) (drop p script))
+stood_first script r w {p} e =
+    let f : take (length script - p) (drop p script) ≡ drop 46 script = lent_from script p ∙ ap (λ (k : ℕ). drop k script) e ∙ past_start script in
+    rw f (record { enough = rw length-drop (omega arith); rest = λ a. a })
+
+module _ {n : ℕ} {u w : Writer} {all ws : List ℕ} {r : State} (s : Stood n u all r w ws) where
   -- a call more
-  module _ (some : 0 < size) where
-    pub past : p ≤ length script → p + size ≤ length script
-    past h =
-        let a = (stands (drop p script) size is some).within in
-        let b = stands_size (drop p script) size is some in
-        let c = length-drop p script in
-        omega arith
+  module _ {i : Item} {rest : List ℕ} (f : First ws i rest) where
+    pub fewer : length rest < length ws
+    fewer = let a = stands_from ws f.whole in omega (arith, ap length f.after, length-drop (size_of ws) ws, a.some, a.within)
 
-    pub size_is : size ≡ size_of (drop p script)
-    size_is = stands_size (drop p script) size is some
-
-    pub size-within : size ≤ length (drop p script)
-    size-within =
-        let a = (stands (drop p script) size is some).within in
-        let b = size_is in
-        omega arith
-
-    calls_on_lem : items_of (length script) (drop p script) ≡ item_of (drop p script) ∷ items_of (length script) (drop (p + size) script)
-    calls_on_lem =
-        next_call (length script) (drop p script) (rw length-drop (omega arith)) (stands (drop p script) size is some)
-        ∙ ap (λ (k : ℕ). item_of (drop p script) ∷ items_of (length script) (drop k (drop p script))) (sym size_is)
-        ∙ ap (λ (l : List ℕ). item_of (drop p script) ∷ items_of (length script) l) (drop-drop size p script)
-
-    pub turn : (out : List ℕ) (q : State) (mid : List ℕ) → r.at ≤ length out → Makes r (item_of (drop p script)) out q mid
-        → Rest Whole out r.at (words_from script r p) → Rest Whole mid q.at (words_from script q (p + size))
-    turn out q mid h m k n after w =
-        let t = turn_of r.trainer r.sender (item_of (drop p script)) in
-        let is' = items_of (length script) (drop (p + size) script) in
-        k n after
-        (spelt out r.at
-        (ap (λ (u : Trainer). t.words ++ ran_from u q.sender is') m.trainer
-        ∙ ap (λ (u : Sender). t.words ++ ran_from t.trainer u is') m.sender
-        ∙ sym (ran_more r.trainer r.sender (item_of (drop p script)) is')
-        ∙ ap (ran_from r.trainer r.sender) (sym calls_on_lem))
-        (then out r.at h m.puts w))
-
-  -- no call more
-  finished : size ≤ 0 → end_words r.trainer (save_of r.trainer (replicate 16388 0)) ++ sender_words r.sender ≡ words_from script r p
-  unfolding ran_from
-  finished h = ap (ran_from r.trainer r.sender) (sym (ended (length script) (drop p script) size is h))
-
-  pub end : (out : List ℕ) {n m : ℕ} {mid after : List ℕ} → size ≤ 0 → r.at ≤ length out
-      → Puts out r.at (end_words r.trainer (save_of r.trainer (replicate 16388 0))) m mid → Puts mid m (sender_words r.sender) n after
-      → Rest Whole out r.at (words_from script r p) → Whole n after
-  end out {n} {m} {mid} {after} h l w u k = k n after (spelt out r.at (finished h) (then out r.at l w u))
-
--- ---- where the loop stands
--- the script from a place on, as it is lent
-abbrev pub lent_from : List ℕ → ℕ → List ℕ
-lent_from script p = take (length script - p) (drop p script)
-
-lent_is : (script : List ℕ) (p : ℕ) → lent_from script p ≡ drop p script
-lent_is script p = take_all (length script - p) (drop p script) (rw length-drop (omega arith))
-
-pub record Stood (Whole : ℕ → List ℕ → Type 0) (script old out : List ℕ) (r : State) (p size : ℕ) : Type 0 where
-  pub place : p ≤ length script
-  pub sized : size ≡ whole_size (drop p script)
-  pub fit : r.at ≤ length out
-  pub same : length out ≡ length old
-  pub rest : Rest Whole out r.at (words_from script r p)
-
-pub stood_first : (script out : List ℕ) (r : State) (p : ℕ) {size : ℕ} → p ≤ length script → r.at ≤ length out → size ≡ whole_size (lent_from script p)
-    → Stood (Puts out r.at (words_from script r p)) script out out r p size
-stood_first script out r p l h e =
-    record { place = l; sized = e ∙ ap whole_size (lent_is script p); fit = h; same = refl; rest = λ n after w. w }
-
-module _ {Whole : ℕ → List ℕ → Type 0} (script old out : List ℕ) (r : State) (p size : ℕ) (s : Stood Whole script old out r p size) where
-  module _ (some : 0 < size) where
-    pub ready : (r.at ≤ length out) × First (lent_from script p) size
-    ready =
-        rw (lent_is script p) (
-          s.fit,
-          record {
-            sized = size_is Whole script r p size s.sized some;
-            some = some;
-            within = size-within Whole script r p size s.sized some;
-          },
-        )
-
-    pub more : p + size ≤ length script
-    more = past Whole script r p size s.sized some s.place
-
-    pub stood_next : {q : State} {mid : List ℕ} {then : ℕ} → Makes r (item_of (lent_from script p)) out q mid → length mid ≡ length out
-        → then ≡ whole_size (lent_from script (p + size)) → Stood Whole script old mid q (p + size) then
-    stood_next {q} {mid} m l e =
-        let w = s.same in
-        let z = fits out r.at m.puts in
+    pub stood_next : {q : State} {v : Writer} → Makes r i w q v → Stood n u all q v rest
+    stood_next {q} {v} m =
+        let t = turn_of r.trainer r.sender i in
+        let is' = items_of n rest in
+        let listed : items_of n ws ≡ i ∷ is' =
+        next_call n ws s.enough (stands_from ws f.whole) ∙ (λ j. sym f.item j ∷ items_of n (sym f.after j)) in
         record {
-          place = more;
-          sized = e ∙ ap whole_size (lent_is script (p + size));
-          fit = omega arith;
-          same = omega arith;
-          rest = turn Whole script r p size s.sized some out q mid s.fit (rw (lent_is script p) at m) s.rest;
+          enough = let l = fewer in let k = s.enough in omega arith;
+          rest = λ {v = z} a.
+              s.rest (as_words (join m.words a)
+              (ap (λ (x : Trainer). t.words ++ ran_from x q.sender is') m.trainer
+              ∙ ap (λ (x : Sender). t.words ++ ran_from t.trainer x is') m.sender
+              ∙ sym (ran_more r.trainer r.sender i is')
+              ∙ ap (ran_from r.trainer r.sender) (sym listed)));
         }
 
-  pub stood_last : {n m : ℕ} {mid after : List ℕ} → size ≤ 0
-      → Puts out r.at (end_words r.trainer (save_of r.trainer (replicate 16388 0))) m mid → Puts mid m (sender_words r.sender) n after
-      → Whole n after
-  stood_last h w u = end Whole script r p size s.sized out h s.fit w u s.rest
+  -- no call more
+  finished : whole_of ws ≡ false → end_words r.trainer (save_of r.trainer (replicate 16388 0)) ++ sender_words r.sender ≡ ran_from r.trainer r.sender (items_of n ws)
+  unfolding ran_from
+  finished h = ap (ran_from r.trainer r.sender) (sym (no_calls n ws h))
 
--- ---- the start
-from_first : (script : List ℕ) → drop (min 46 (length script)) script ≡ drop 46 script
-from_first script = ⊎_elim inside past (lt_or_le 46 (length script))
-  where
-    inside : 46 < length script → drop (min 46 (length script)) script ≡ drop 46 script
-    inside h = ap (λ (k : ℕ). drop k script) (let e : min 46 (length script) ≡ 46 = omega arith in e)
+  pub stood_last : whole_of ws ≡ false → {x v : Writer} → Appends w (end_words r.trainer (save_of r.trainer (replicate 16388 0))) x
+      → Appends x (sender_words r.sender) v → Appends u all v
+  stood_last h a b = s.rest (as_words (join a b) (finished h))
 
-    past : length script ≤ 46 → drop (min 46 (length script)) script ≡ drop 46 script
-    past h = drop_of_length-le script {i = min 46 (length script)} (omega arith) ∙ sym (drop_of_length-le script h)
-
--- 0, the question, and the calls
-pub begun : (t : Trainer) (s : Sender) (script out : List ℕ) (p : ℕ) {q : Question} {n at m : ℕ} {one two after : List ℕ}
-    → p ≡ min 46 (length script) → q ≡ question_of t → Puts out 0 (0 ∷ []) n one → Puts one n (question_words q) at two
-    → Puts two at (words_from script (record { trainer = t; sender = s; at = at }) p) m after
-    → Puts out 0 (0 ∷ (question_words (question_of t) ++ ran_from t s (calls_of script))) m after
-begun t s script out p {n = n} {at = at} {one = one} {two = two} e f a b c =
-    let h : 0 ≤ length out = omega arith in
-    then out 0 h (then out 0 h a (spelt one n (ap question_words f) b))
-    (spelt two at (ap (λ (l : List ℕ). ran_from t s (items_of (length script) l)) (ap (λ (k : ℕ). drop k script) e ∙ from_first script)) c)
-
-starts : (s : Settings) (b : Bool) → settings_hold s ≡ b → (start_of s).refused ≡ cond b 0 2
-unfolding start_of
-starts s true e = rw e
-starts s false e = rw e
-
-pub start_holds_lem : (s : Settings) {a : Answered} → a ≡ start_of s → a.refused ≡ 0 → settings_hold s ≡ true
-start_holds_lem s {a} e f = go (settings_hold s) refl
-  where
-    go : (b : Bool) → settings_hold s ≡ b → settings_hold s ≡ true
-    go true h = h
-    go false h = absurd (let z = starts s false h in let y : a.refused ≡ (start_of s).refused = ap (λ (x : Answered). x.refused) e in omega arith)
-
-pub start_not : (s : Settings) {a : Answered} → a ≡ start_of s → (a.refused ≡ 0 → ⊥) → settings_hold s ≡ false
-start_not s {a} e f = go (settings_hold s) refl
-  where
-    go : (b : Bool) → settings_hold s ≡ b → settings_hold s ≡ false
-    go true h = absurd (f (ap (λ (x : Answered). x.refused) e ∙ starts s true h))
-    go false h = h
-
-module _ (script out : List ℕ) {a : Answered} {g : Settings} (settled : g ≡ settings script) (started : a ≡ start_of g) where
-  module _ {n : ℕ} {after : List ℕ} where
-    pub refuses_settings : (a.refused ≡ 0 → ⊥) → Puts out 0 (2 ∷ []) n after → Puts out 0 (ran_of script) n after
-    unfolding ran_with
-    refuses_settings f w = rw (start_not (settings script) (started ∙ ap start_of settled) f) w
-
-    pub refuses_sender : {x : Made} (k : ℕ) → a.refused ≡ 0 → x ≡ made_of script → x ≡ made.Refused k → Puts out 0 (2 ∷ []) n after
-        → Puts out 0 (ran_of script) n after
-    unfolding ran_with ran_made
-    refuses_sender k f y z w = rw (start_holds_lem (settings script) (started ∙ ap start_of settled) f, ← y, z) w
-
-    pub runs_all : {x : Made} (s : Sender) → a.refused ≡ 0 → x ≡ made_of script → x ≡ made.Ready s
-        → Puts out 0 (0 ∷ (question_words (question_of a.trainer) ++ ran_from a.trainer s (calls_of script))) n after
-        → Puts out 0 (ran_of script) n after
-    unfolding ran_with ran_made
-    runs_all s f y z w =
-        rw (start_holds_lem (settings script) (started ∙ ap start_of settled) f, ← y, z) (rw (started ∙ ap start_of settled) at w)
-
--- ---- the sender of the start
-module _ (script : List ℕ) {x : ℕ} (is : x ≡ word script 19) where
-  pub new_sender : {m : RepeatMode} {r : Made} → x ≡ 0 → m ≡ mode script → r ≡ new_of m → r ≡ made_of script
-  unfolding made_of
-  new_sender e f g = rw (← is, e) (g ∙ ap new_of f)
-
-  pub given_sender : {s : Sender} → (x ≡ 0 → ⊥) → s ≡ handed_in script → made.Ready s ≡ made_of script
-  unfolding made_of
-  given_sender e f = rw (← is, ne_eqb x 0 e) (ap made.Ready f)
+-- ---- all that follows a start
+pub started : (script : List ℕ) (r : State) {q : Result Question Refusal} {w one two v : Writer} → Ok r ≡ begun_of script → q ≡ question_of r.trainer
+    → Appends w (0 ∷ []) one → Appends one (question_words q) two → Appends two (ran_from r.trainer r.sender (calls_of script)) v
+    → Appends w (ran_of script) v
+unfolding ran_begun
+started script r e f a b c = rw (← e) (join a (join (as_words b (ap question_words f)) c))

@@ -1,11 +1,11 @@
 -- Demand 3 as words: what is compared of a list of calls, as the plain trainer and the plain sender have it.
-use Rattle.std.specs.Prelude.{Bool, true, ◌&&◌, cond, List, [], ◌∷◌, ◌++◌, ℕ, length, take, drop}
+use Rattle.std.specs.Prelude.{Bool, true, ◌&&◌, cond, List, [], ◌∷◌, ◌++◌, ℕ, length, take, drop, Option, Some, None}
 use Rattle.wire.specs.Bytes.{flag_byte}
 use Rattle.trainer.specs.declared.settings.Settings.{Settings}
 use Rattle.sender.specs.declared.Sender.{Sender}
 use Rattle.sender.specs.SenderCall as runs
 use Rattle.promise.specs.PlainSettings.{settings_taken, mode_taken, fresh_start}
-use Rattle.promise.specs.PlainTree.{Tree, Choice, nobody, leaf, rule_at}
+use Rattle.promise.specs.PlainTree.{Tree, rule_at}
 use Rattle.promise.specs.PlainTrainer as plain
 use Rattle.promise.specs.PlainSender.{PlainSender, Reaction, leaf_at, react, wait_held, state_of}
 use Rattle.promise.specs.SenderRuns.{plain_start}
@@ -28,9 +28,9 @@ abbrev pub reaction_words : Reaction → List ℕ
 reaction_words o = o.refused ∷ (o.window ∷ (flag_byte o.clipped ∷ (bits (wait_held o.sender).0 ∷ [])))
 
 -- a lookup: 1 and the action of the leaf that holds the point, or 0
-unfoldable pub found_words : Tree → Choice → List ℕ
-found_words t nobody = 0 ∷ []
-found_words t (leaf i) = 1 ∷ action_words (rule_at t i).action
+unfoldable pub found_words : Tree → Option ℕ → List ℕ
+found_words t None = 0 ∷ []
+found_words t (Some i) = 1 ∷ action_words (rule_at t i).action
 
 -- every call in turn, the acks and lookups over the trainer's tree as it then is; at the end the record's size and bytes,
 -- and the whole sender that is left

@@ -1,25 +1,19 @@
 -- A list of calls in 64-bit words: each number stands in one word, a float by its bits. What lies past the end reads as 0.
-use Rattle.std.specs.Prelude.{Bool, ◌&&◌, cond, List, [], ◌∷◌, map, ℕ, zero, suc, ◌+◌, ◌%◌, length, take, drop, get_or, eqb, ltb, leb, Float}
+use Rattle.std.specs.Prelude.{Bool, ◌&&◌, cond, List, [], ◌∷◌, map, ℕ, zero, suc, ◌+◌, ◌%◌, length, take, drop, get_or, eqb, ltb, leb, Float, Option, Some, None}
 use Rattle.std.specs.Float.{binary64}
 use Rattle.std.specs.Float.Ieee.{of_bits}
 use Rattle.std.specs.Int.{w32}
 use Rattle.std.proofs.Common.{to_z}
+use Rattle.quantities.specs.declared.Time.{Time}
+use Rattle.quantities.specs.declared.TimeSpan.{TimeSpan}
 use Rattle.quantities.specs.Time.{span, moment}
 use Rattle.remy.specs.declared.action.Action.{Action}
 use Rattle.remy.specs.declared.point.Point.{Point}
 use Rattle.remy.specs.Action.{action_of}
 use Rattle.remy.specs.Cube.{point_of}
 use Rattle.trainer.specs.declared.settings.Settings.{Settings}
-use Rattle.sender.specs.declared.Moment.{Moment}
-use Rattle.sender.specs.declared.Moment.TheVariants.{Never, At}
-use Rattle.sender.specs.declared.Average.{Average}
-use Rattle.sender.specs.declared.Average.TheVariants.{Empty, Of}
 use Rattle.sender.specs.declared.Rtt.{Rtt}
-use Rattle.sender.specs.declared.Rtt.TheVariants.{Unknown, Known}
-use Rattle.sender.specs.declared.Pending.{Pending}
-use Rattle.sender.specs.declared.Pending.TheVariants.{Idle, Repeat}
-use Rattle.sender.specs.declared.Draw.{Draw}
-use Rattle.sender.specs.declared.Draw.TheVariants.{Absent, Given}
+use Rattle.sender.specs.declared.Repeat.{Repeat}
 use Rattle.sender.specs.declared.RepeatMode.{RepeatMode}
 use Rattle.sender.specs.declared.RepeatMode.TheVariants.{Off, Always, Between}
 use Rattle.sender.specs.declared.Sender.{Sender}
@@ -72,20 +66,23 @@ mode ws =
     cond (eqb (word ws 20) 0) Off
     (cond (eqb (word ws 20) 1) (Always (number ws 21)) (Between (number ws 21) (number ws 22)))
 
--- parts of a sender that may be missing: 0 for none
-unfoldable pub moment_at : List ℕ → ℕ → Moment
-moment_at ws i = cond (eqb (word ws i) 0) Never (At (moment (float ws (i + 1))))
+-- parts of a sender that may be missing: none where word i is 0, else what stands behind it
+abbrev pub behind : {A : Type 0} → List ℕ → ℕ → A → Option A
+behind ws i x = cond (eqb (word ws i) 0) None (Some x)
 
-unfoldable pub average_at : List ℕ → ℕ → Average
-average_at ws i = cond (eqb (word ws i) 0) Empty (Of (span (float ws (i + 1))))
+abbrev pub moment_at : List ℕ → ℕ → Option Time
+moment_at ws i = behind ws i (moment (float ws (i + 1)))
+
+abbrev pub average_at : List ℕ → ℕ → Option TimeSpan
+average_at ws i = behind ws i (span (float ws (i + 1)))
 
 -- the shortest, then the current
-unfoldable pub trips_at : List ℕ → ℕ → Rtt
-trips_at ws i = cond (eqb (word ws i) 0) Unknown (Known (span (float ws (i + 1))) (span (float ws (i + 2))))
+abbrev pub trips_at : List ℕ → ℕ → Option Rtt
+trips_at ws i = behind ws i (record { shortest = span (float ws (i + 1)); current = span (float ws (i + 2)) })
 
 -- how many acks are left, then the action
-unfoldable pub pending_at : List ℕ → ℕ → Pending
-pending_at ws i = cond (eqb (word ws i) 0) Idle (Repeat (number ws (i + 1)) (action ws (i + 2)))
+abbrev pub pending_at : List ℕ → ℕ → Option Repeat
+pending_at ws i = behind ws i (record { left = number ws (i + 1); action = action ws (i + 2) })
 
 -- words 20 to 42
 abbrev pub handed_in : List ℕ → Sender
@@ -104,8 +101,8 @@ handed_in ws =
     }
 
 -- a number up to 4,294,967,295 is the draw, any larger one none
-unfoldable pub draw_of : ℕ → Draw
-draw_of n = cond (leb n 4294967295) (Given n) Absent
+unfoldable pub draw_of : ℕ → Option ℕ
+draw_of n = cond (leb n 4294967295) (Some n) None
 
 -- each byte is a word's lowest 8 bits
 abbrev pub bytes_of : List ℕ → List ℕ
@@ -114,7 +111,7 @@ bytes_of ws = map (λ (w : ℕ). w % 256) ws
 -- a call to the trainer, to the sender, or a lookup in the trainer's tree
 pub data Item : Type 0 where
   train : Call → Item
-  ack : Float → Float → Draw → Item
+  ack : Float → Float → Option ℕ → Item
   send : Float → Item
   tick : Item
   lookup : Point → Item

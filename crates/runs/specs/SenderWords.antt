@@ -1,19 +1,16 @@
 -- A whole sender in 23 words: the mode (3), the last ack and the send that it acked (2 each), the two averages (2 each), the round trips (3), the
 -- pending repeat (5), the standing send (2), the window and the wait. What is not there is 0 in all its words.
-use Rattle.std.specs.Prelude.{List, [], ◌∷◌, ◌++◌, ℕ, Float}
+use Rattle.std.specs.Prelude.{List, [], ◌∷◌, ◌++◌, ℕ, Float, Option, Some, None}
+use Rattle.std.specs.Option.{option_map}
 use Rattle.std.specs.Float.{binary64}
 use Rattle.std.specs.Float.Ieee.{to_bits}
 use Rattle.std.specs.Int.{w32}
 use Rattle.std.proofs.Common.{of_z}
+use Rattle.quantities.specs.declared.Time.{Time}
+use Rattle.quantities.specs.declared.TimeSpan.{TimeSpan}
 use Rattle.remy.specs.declared.action.Action.{Action}
-use Rattle.sender.specs.declared.Moment.{Moment}
-use Rattle.sender.specs.declared.Moment.TheVariants as moment
-use Rattle.sender.specs.declared.Average.{Average}
-use Rattle.sender.specs.declared.Average.TheVariants as average
 use Rattle.sender.specs.declared.Rtt.{Rtt}
-use Rattle.sender.specs.declared.Rtt.TheVariants as trips
-use Rattle.sender.specs.declared.Pending.{Pending}
-use Rattle.sender.specs.declared.Pending.TheVariants as pending
+use Rattle.sender.specs.declared.Repeat.{Repeat}
 use Rattle.sender.specs.declared.RepeatMode.{RepeatMode}
 use Rattle.sender.specs.declared.RepeatMode.TheVariants.{Off, Always, Between}
 use Rattle.sender.specs.declared.Sender.{Sender}
@@ -30,26 +27,35 @@ mode_words Off = 0 ∷ (0 ∷ (0 ∷ []))
 mode_words (Always n) = 1 ∷ (n ∷ (0 ∷ []))
 mode_words (Between lo hi) = 2 ∷ (lo ∷ (hi ∷ []))
 
-unfoldable pub moment_words : Moment → List ℕ
-moment_words moment.Never = 0 ∷ (0 ∷ [])
-moment_words (moment.At t) = 1 ∷ (bits t.0 ∷ [])
+-- 1 and the bits of a number, or 0 and 0
+unfoldable pub number_words : Option Float → List ℕ
+number_words None = 0 ∷ (0 ∷ [])
+number_words (Some x) = 1 ∷ (bits x ∷ [])
 
-unfoldable pub average_words : Average → List ℕ
-average_words average.Empty = 0 ∷ (0 ∷ [])
-average_words (average.Of x) = 1 ∷ (bits x.0 ∷ [])
+abbrev pub held_of : Option Time → Option Float
+held_of m = option_map (λ (t : Time). t.0) m
+
+abbrev pub seconds_of : Option TimeSpan → Option Float
+seconds_of a = option_map (λ (x : TimeSpan). x.0) a
+
+abbrev pub moment_words : Option Time → List ℕ
+moment_words m = number_words (held_of m)
+
+abbrev pub average_words : Option TimeSpan → List ℕ
+average_words a = number_words (seconds_of a)
 
 -- the shortest, then the current
-unfoldable pub trip_words : Rtt → List ℕ
-trip_words trips.Unknown = 0 ∷ (0 ∷ (0 ∷ []))
-trip_words (trips.Known shortest current) = 1 ∷ (bits shortest.0 ∷ (bits current.0 ∷ []))
+unfoldable pub trip_words : Option Rtt → List ℕ
+trip_words None = 0 ∷ (0 ∷ (0 ∷ []))
+trip_words (Some t) = 1 ∷ (bits t.shortest.0 ∷ (bits t.current.0 ∷ []))
 
 -- how many acks are left, then the action
-unfoldable pub pending_words : Pending → List ℕ
-pending_words pending.Idle = 0 ∷ (0 ∷ (0 ∷ (0 ∷ (0 ∷ []))))
-pending_words (pending.Repeat left a) = 1 ∷ (left ∷ action_words a)
+unfoldable pub pending_words : Option Repeat → List ℕ
+pending_words None = 0 ∷ (0 ∷ (0 ∷ (0 ∷ (0 ∷ []))))
+pending_words (Some r) = 1 ∷ (r.left ∷ action_words r.action)
 
 unfoldable pub sender_words : Sender → List ℕ
-unfolding mode_words moment_words average_words trip_words pending_words
+unfolding mode_words number_words trip_words pending_words
 sender_words s =
     mode_words s.repeat_actions
     ++ (moment_words s.last_ack

@@ -1,192 +1,141 @@
 // A script in 64-bit words, read by place; what lies past the end reads as 0.
-ghost use Rattle.std.specs.Prelude.{◌≡◌, ◌+◌, ◌≤◌, length};
+ghost use Rattle.std.specs.Prelude.{◌≡◌, ◌∷◌, ◌<◌, ◌≤◌, length, drop, MatchOption, false};
 ghost use Rattle.runs.specs.Script as spec;
-ghost use Rattle.quantities.specs.Time.{moment};
-ghost use Rattle.runs.specs.Turn.{fixed_size, listed_size, whole_size};
+ghost use Rattle.runs.specs.Turn.{settings_in, ack_in, meant, Listed, First};
 
+use crate::call::{Buffer, Call, TrainerCall};
 use quantities::{Time, TimeSpan};
 use remy::action::Action;
 use remy::point::Point;
-use sender::{Average, Draw, Moment, Pending, RepeatMode, Rtt, Sender};
+use sender::{Ack, Event, Repeat, RepeatMode, Rtt, Sender};
 use trainer::settings::Settings;
 
-pub(crate) fn word(ws: &[u64], i: usize) -> u64
-    ensures { result ≡ spec.word ws.now i }
+// A word by the slice and its place, as `get` takes them: a struct of the two is no plainer.
+pub(crate) fn word(ws: &[u64], k: usize) -> u64
+    ensures { result ≡ spec.word ws.now k }
 {
-    if i < ws.len() { ws[i] } else { 0 }
+    ws.get(k).copied().unwrap_or(0)
 }
 
-fn number(ws: &[u64], i: usize) -> u32
-    ensures { result ≡ spec.number ws.now i }
+fn number(ws: &[u64], k: usize) -> u32
+    ensures { result ≡ spec.number ws.now k }
 {
-    (word(ws, i) % 4294967296) as u32
+    (word(ws, k) % 4294967296) as u32
 }
 
-pub(crate) fn float(ws: &[u64], i: usize) -> f64
-    ensures { result ≡ spec.float ws.now i }
+fn float(ws: &[u64], k: usize) -> f64
+    ensures { result ≡ spec.float ws.now k }
 {
-    floats::from_bits(word(ws, i))
+    floats::from_bits(word(ws, k))
 }
 
-fn action(ws: &[u64], i: usize) -> Action
-    requires { i ≤ 65536 }
-    ensures { result ≡ spec.action ws.now i }
+// The words after the first k, where there are so many.
+fn after(ws: &[u64], k: usize) -> Option<&[u64]>
+    ensures { MatchOption result (length ws.now < k) (λ rest. (rest.now ≡ drop k ws.now) × (k ≤ length ws.now)) }
 {
-    let multiplier = float(ws, i);
-    let increment = number(ws, i + 1).cast_signed();
-    let delay = float(ws, i + 2);
-    Action::new(multiplier, increment, delay)
+    ws.get(k..)
 }
 
-// The upper ends from word i on.
-fn ends(ws: &[u64], i: usize) -> Point
-    requires { i ≤ 60000 }
-    ensures { result ≡ spec.ends ws.now i }
+// The words from place k on.
+fn from(ws: &[u64], k: usize) -> &[u64]
+    ensures { result.now ≡ drop k ws.now }
 {
-    let ack = float(ws, i);
-    let send = float(ws, i + 1);
-    let ratio = float(ws, i + 2);
-    Point::new(ack, send, ratio)
+    after(ws, k).unwrap_or(&[])
 }
 
-// The settings from word i on, their upper ends from word e on.
-pub(crate) fn settings_at(ws: &[u64], i: usize, e: usize) -> Settings
-    requires { (i ≤ 60000) × (e ≤ 60000) }
-    ensures { result ≡ spec.settings_at ws.now i e }
+fn action(ws: &[u64]) -> Action
+    ensures { result ≡ spec.action ws.now 0 }
 {
-    let rule_splits = number(ws, i);
-    let optimization_rounds_per_split = number(ws, i + 1);
-    let action_change_multiplier = number(ws, i + 2);
-    let drill_down = word(ws, i + 3) == 1;
-    let min_action = action(ws, i + 4);
-    let max_action = action(ws, i + 7);
-    let initial_action_change = action(ws, i + 10);
-    let max_action_change = action(ws, i + 13);
-    let default_action = action(ws, i + 16);
-    let ends = ends(ws, e);
+    Action::new(float(ws, 0), number(ws, 1).cast_signed(), float(ws, 2))
+}
+
+fn point(ws: &[u64]) -> Point
+    ensures { result ≡ spec.ends ws.now 0 }
+{
+    Point::new(float(ws, 0), float(ws, 1), float(ws, 2))
+}
+
+// The settings, with these upper ends.
+fn settings_with(ws: &[u64], ends: Point) -> Settings
+    ensures { result ≡ settings_in ws.now ends }
+{
     Settings {
-        rule_splits,
-        optimization_rounds_per_split,
-        action_change_multiplier,
-        drill_down,
-        min_action,
-        max_action,
-        initial_action_change,
-        max_action_change,
-        default_action,
+        rule_splits: number(ws, 0),
+        optimization_rounds_per_split: number(ws, 1),
+        action_change_multiplier: number(ws, 2),
+        drill_down: word(ws, 3) == 1,
+        min_action: action(from(ws, 4)),
+        max_action: action(from(ws, 7)),
+        initial_action_change: action(from(ws, 10)),
+        max_action_change: action(from(ws, 13)),
+        default_action: action(from(ws, 16)),
         ends,
     }
 }
 
 // The settings of the start.
-pub(crate) fn settings(ws: &[u64]) -> Settings
-    ensures { result ≡ spec.settings ws.now }
+#[tactic(auto, using(crate::proofs::Reading::settings_from))]
+pub(crate) fn settings(script: &[u64]) -> Settings
+    ensures { result ≡ spec.settings script.now }
 {
-    settings_at(ws, 0, 43)
+    settings_with(script, point(from(script, 43)))
 }
 
-pub(crate) fn mode(ws: &[u64]) -> RepeatMode
-    ensures { result ≡ spec.mode ws.now }
+#[tactic(auto, unfolding(crate::specs::Script::mode))]
+pub(crate) fn mode(script: &[u64]) -> RepeatMode
+    ensures { result ≡ spec.mode script.now }
 {
-    let kind = word(ws, 20);
-    if kind == 0 {
-        return RepeatMode::Off;
+    match word(script, 20) {
+        0 => RepeatMode::Off,
+        1 => RepeatMode::Always(number(script, 21)),
+        _ => RepeatMode::Between(number(script, 21), number(script, 22)),
     }
-    if kind == 1 {
-        return RepeatMode::Always(number(ws, 21));
-    }
-    RepeatMode::Between(number(ws, 21), number(ws, 22))
 }
 
-// A moment that is handed in.
-fn restored(x: f64) -> Time
-    ensures { result ≡ moment x }
+// Parts of a sender that may be missing, each after a word that is 0 for none. A number first.
+#[tactic(auto, using(crate::proofs::Reading::there))]
+fn seconds(ws: &[u64]) -> Option<f64>
+    ensures { result ≡ spec.behind ws.now 0 (spec.float ws.now 1) }
 {
-    Time::restored(x)
+    (word(ws, 0) != 0).then_some(float(ws, 1))
 }
 
-fn moment_at(ws: &[u64], i: usize) -> Moment
-    requires { i ≤ 65536 }
-    ensures { result ≡ spec.moment_at ws.now i }
+#[tactic(auto, using(crate::proofs::Reading::there))]
+fn trips(ws: &[u64]) -> Option<Rtt>
+    ensures { result ≡ spec.trips_at ws.now 0 }
 {
-    if word(ws, i) == 0 {
-        return Moment::Never;
-    }
-    let t = restored(float(ws, i + 1));
-    Moment::At(t)
+    (word(ws, 0) != 0).then_some(Rtt {
+        shortest: TimeSpan(float(ws, 1)),
+        current: TimeSpan(float(ws, 2)),
+    })
 }
 
-fn average_at(ws: &[u64], i: usize) -> Average
-    requires { i ≤ 65536 }
-    ensures { result ≡ spec.average_at ws.now i }
+#[tactic(auto, using(crate::proofs::Reading::there))]
+fn pending(ws: &[u64]) -> Option<Repeat>
+    ensures { result ≡ spec.pending_at ws.now 0 }
 {
-    if word(ws, i) == 0 {
-        return Average::Empty;
-    }
-    let x = TimeSpan(float(ws, i + 1));
-    Average::Of(x)
+    (word(ws, 0) != 0).then_some(Repeat {
+        left: number(ws, 1),
+        action: action(from(ws, 2)),
+    })
 }
 
-fn trips_at(ws: &[u64], i: usize) -> Rtt
-    requires { i ≤ 65536 }
-    ensures { result ≡ spec.trips_at ws.now i }
+// The sender that is handed in. host_sender reads it from bytes at other places: a trait over words and bytes is no plainer.
+pub(crate) fn handed_in(script: &[u64]) -> Sender
+    ensures { result ≡ spec.handed_in script.now }
 {
-    if word(ws, i) == 0 {
-        return Rtt::Unknown;
-    }
-    let shortest = TimeSpan(float(ws, i + 1));
-    let current = TimeSpan(float(ws, i + 2));
-    Rtt::Known(shortest, current)
-}
-
-fn pending_at(ws: &[u64], i: usize) -> Pending
-    requires { i ≤ 60000 }
-    ensures { result ≡ spec.pending_at ws.now i }
-{
-    if word(ws, i) == 0 {
-        return Pending::Idle;
-    }
-    let left = number(ws, i + 1);
-    let a = action(ws, i + 2);
-    Pending::Repeat(left, a)
-}
-
-// The sender that is handed in.
-pub(crate) fn handed_in(ws: &[u64]) -> Sender
-    ensures { result ≡ spec.handed_in ws.now }
-{
-    let last_ack = moment_at(ws, 23);
-    let last_ack_send = moment_at(ws, 25);
-    let ack_ewma = average_at(ws, 27);
-    let send_ewma = average_at(ws, 29);
-    let rtt = trips_at(ws, 31);
-    let next_change = pending_at(ws, 34);
-    let repeat_actions = mode(ws);
-    let last_send = moment_at(ws, 39);
-    let window = number(ws, 41);
-    let intersend_delay = TimeSpan(float(ws, 42));
     Sender {
-        last_ack,
-        last_ack_send,
-        ack_ewma,
-        send_ewma,
-        rtt,
-        next_change,
-        repeat_actions,
-        last_send,
-        window,
-        intersend_delay,
+        last_ack: seconds(from(script, 23)).map(Time::restored),
+        last_ack_send: seconds(from(script, 25)).map(Time::restored),
+        ack_ewma: seconds(from(script, 27)).map(TimeSpan),
+        send_ewma: seconds(from(script, 29)).map(TimeSpan),
+        rtt: trips(from(script, 31)),
+        next_change: pending(from(script, 34)),
+        repeat_actions: mode(script),
+        last_send: seconds(from(script, 39)).map(Time::restored),
+        window: number(script, 41),
+        intersend_delay: TimeSpan(float(script, 42)),
     }
-}
-
-// The draw of a number, or none.
-pub(crate) fn draw_of(n: u64) -> Draw
-    ensures { result ≡ spec.draw_of n }
-{
-    if n <= 4294967295 {
-        return Draw::Given(n as u32);
-    }
-    Draw::Absent
 }
 
 // Fills the buffer with the words' bytes.
@@ -194,51 +143,68 @@ pub(crate) fn fill(buffer: &mut [u8], ws: &[u64])
     requires { length buffer.old ≡ length ws.now }
     ensures { buffer.new ≡ spec.bytes_of ws.now }
 {
-    let mut i: usize = 0;
-    while i < ws.len() {
-        buffer[i] = (ws[i] % 256) as u8;
-        i += 1;
+    for (i, b) in buffer.iter_mut().enumerate() {
+        *b = (ws[i] % 256) as u8;
     }
 }
 
-// The size of a call of any code but 1 and 3, 0 for no such code.
-fn fixed_size(code: u64) -> usize
-    ensures { result ≡ fixed_size code }
+// The first of the words says how many there are: these, and those after them. None where they are cut off.
+fn listed(ws: &[u64]) -> Option<(&[u64], &[u64])>
+    ensures { Listed ws.now result }
+{
+    let (n, rest) = ws.split_first()?;
+    rest.split_at_checked(*n as usize)
+}
+
+// The ack that the words hold; a number too large for a draw is none.
+#[tactic(auto, unfolding(crate::specs::Script::draw_of))]
+fn ack(ws: &[u64]) -> Ack
+    ensures { result ≡ ack_in ws.now }
+{
+    Ack {
+        sent: float(ws, 0),
+        received: float(ws, 1),
+        draw: u32::try_from(word(ws, 2)).ok(),
+    }
+}
+
+// The call of a code by the words after it, and what is left of these. None for no such code, and where words are cut off.
+// A script's codes are numbers, and here each becomes its call: an enum of codes would have to be matched once more.
+#[tactic(auto, using(crate::proofs::Reading::no_counts, crate::proofs::Reading::no_score, crate::proofs::Reading::no_bytes, crate::proofs::Reading::too_long, crate::proofs::Reading::no_ack, crate::proofs::Reading::no_send, crate::proofs::Reading::no_lookup, crate::proofs::Reading::no_change, crate::proofs::Reading::no_code))]
+fn call_of(code: u64, ws: &[u64]) -> Option<(Call<'_>, &[u64])>
+    ensures { MatchOption result (spec.whole_of (code ∷ ws.now) ≡ false) (λ r. First (code ∷ ws.now) (meant r.0) r.1.now) }
 {
     match code {
-        2 | 5 => 2,
-        4 | 8 => 4,
-        6 => 1,
-        15 => 23,
-        _ => 0,
-    }
-}
-
-// The size of a call that lists its words, 0 where it is cut off.
-fn listed_size(ws: &[u64]) -> usize
-    ensures { result ≡ listed_size ws.now }
-{
-    let n = word(ws, 1) as usize;
-    if ws.len() < 2 {
-        return 0;
-    }
-    if n <= ws.len() - 2 { n + 2 } else { 0 }
-}
-
-// The size of the call that stands first, 0 where no whole call does.
-pub(crate) fn whole_size(ws: &[u64]) -> usize
-    ensures { result ≡ whole_size ws.now }
-{
-    let code = word(ws, 0);
-    if code == 1 {
-        return listed_size(ws);
-    }
-    if code == 3 {
-        if word(ws, 1) <= 32768 {
-            return listed_size(ws);
+        1 => {
+            let (counts, rest) = listed(ws)?;
+            Some((Call::Train(TrainerCall::Counts(counts)), rest))
         }
-        return 0;
+        2 => {
+            let score = TrainerCall::Score(float(ws, 0));
+            Some((Call::Train(score), after(ws, 1)?))
+        }
+        3 => {
+            let (bytes, rest) = listed(ws)?;
+            let reload = TrainerCall::Reload(Buffer::of(bytes)?);
+            Some((Call::Train(reload), rest))
+        }
+        4 => Some((Call::React(Event::Ack(ack(ws))), after(ws, 3)?)),
+        5 => Some((Call::React(Event::Send(float(ws, 0))), after(ws, 1)?)),
+        6 => Some((Call::React(Event::Tick), ws)),
+        8 => Some((Call::Look(point(ws)), after(ws, 3)?)),
+        15 => {
+            let change = TrainerCall::Change(settings_with(ws, point(from(ws, 19))));
+            Some((Call::Train(change), after(ws, 22)?))
+        }
+        _ => None,
     }
-    let n = fixed_size(code);
-    if n <= ws.len() { n } else { 0 }
+}
+
+// The call that stands first, and the words after it.
+#[tactic(auto, using(crate::proofs::Reading::empty_not))]
+pub(crate) fn first_call(ws: &[u64]) -> Option<(Call<'_>, &[u64])>
+    ensures { MatchOption result (spec.whole_of ws.now ≡ false) (λ r. First ws.now (meant r.0) r.1.now) }
+{
+    let (code, rest) = ws.split_first()?;
+    call_of(*code, rest)
 }

@@ -1,209 +1,176 @@
-// Words put from a place of a lent slice on, as many as fit. Each function answers the place after them.
-ghost use Rattle.std.specs.Prelude.{[], ◌∷◌, ◌≡◌, ◌≤◌, length};
-ghost use Rattle.std.specs.Int.{w32};
-ghost use Rattle.std.proofs.Common.{of_z};
-ghost use Rattle.wire.specs.Bytes.{flag_byte};
-ghost use Rattle.runs.specs.SenderWords.{bits, action_words, mode_words, moment_words, average_words, trip_words, pending_words, sender_words};
-ghost use Rattle.runs.specs.Ran.{question_words, looked_words};
-ghost use Rattle.runs.specs.Turn.{Puts};
+// Words put into a lent slice one after the other, as many as it has room for, and the words that stand for a value.
+ghost use Rattle.std.specs.Prelude.{◌≡◌, ◌≤◌, length, Option};
+ghost use Rattle.runs.specs.SenderWords.{action_words, mode_words, number_words, trip_words, pending_words};
+ghost use Rattle.runs.specs.Ran.{number_or_0};
 
 use quantities::Time;
+use refusal::Refusal;
 use remy::action::Action;
-use rule_tree::Looked;
-use sender::{Average, Moment, Pending, RepeatMode, Rtt, Sender};
+use sender::{Held, Repeat, RepeatMode, Rtt, Sender};
 use trainer::Question;
 use wire::inner::write::flag_of;
 
-pub(crate) fn put(out: &mut [u64], at: usize, x: u64) -> usize
-    requires { at ≤ length out.old }
-    ensures { Puts out.old at (x ∷ []) result out.new }
+// A refusal's number, or 0.
+pub(crate) fn of_refusal(refusal: Option<Refusal>) -> u64
+    ensures { result ≡ number_or_0 refusal }
 {
-    if at < out.len() {
-        out[at] = x;
-        return at + 1;
-    }
-    at
+    refusal.map_or(0, |r| u64::from(r.number()))
 }
 
-pub(crate) fn put_pair(out: &mut [u64], at: usize, x: u64, y: u64) -> usize
-    requires { at ≤ length out.old }
-    ensures { Puts out.old at (x ∷ (y ∷ [])) result out.new }
+fn of_action(a: Action) -> [u64; 3]
+    ensures { result ≡ action_words a }
 {
-    let next = put(out, at, x);
-    put(out, next, y)
+    [
+        floats::to_bits(a.window_multiplier),
+        u64::from(a.window_increment.cast_unsigned()),
+        floats::to_bits(a.intersend_delay.0),
+    ]
 }
 
-fn put_three(out: &mut [u64], at: usize, x: u64, y: u64, z: u64) -> usize
-    requires { at ≤ length out.old }
-    ensures { Puts out.old at (x ∷ (y ∷ (z ∷ []))) result out.new }
-{
-    let next = put_pair(out, at, x, y);
-    put(out, next, z)
-}
-
-// A word for each byte.
-pub(crate) fn put_bytes(out: &mut [u64], at: usize, bytes: &[u8]) -> usize
-    requires { at ≤ length out.old }
-    ensures { Puts out.old at bytes.now result out.new }
-{
-    let mut next = at;
-    let mut i: usize = 0;
-    while i < bytes.len() {
-        next = put(out, next, bytes[i] as u64);
-        i += 1;
-    }
-    next
-}
-
-fn put_action(out: &mut [u64], at: usize, a: Action) -> usize
-    requires { at ≤ length out.old }
-    ensures { Puts out.old at (action_words a) result out.new }
-{
-    let multiplier = floats::to_bits(a.window_multiplier);
-    let increment = u64::from(a.window_increment.cast_unsigned());
-    let delay = floats::to_bits(a.intersend_delay.0);
-    let next = put_pair(out, at, multiplier, increment);
-    put(out, next, delay)
-}
-
-fn put_score(out: &mut [u64], at: usize, leaf: u16, a: Action, progress: f64) -> usize
-    requires { at ≤ length out.old }
-    ensures { Puts out.old at (question_words (Question.Score leaf a progress)) result out.new }
-{
-    let next = put_pair(out, at, 2, leaf as u64);
-    let last = put_action(out, next, a);
-    put(out, last, floats::to_bits(progress))
-}
-
-pub(crate) fn put_question(out: &mut [u64], at: usize, q: Question) -> usize
-    requires { at ≤ length out.old }
-    ensures { Puts out.old at (question_words q) result out.new }
-{
-    match q {
-        Question::Counts(progress) => put_pair(out, at, 1, floats::to_bits(progress)),
-        Question::Score(leaf, a, progress) => put_score(out, at, leaf, a, progress),
-        Question::Done(progress) => put_pair(out, at, 3, floats::to_bits(progress)),
-        Question::Refused(_) => at,
-    }
-}
-
-pub(crate) fn put_looked(out: &mut [u64], at: usize, found: Looked) -> usize
-    requires { at ≤ length out.old }
-    ensures { Puts out.old at (looked_words found) result out.new }
-{
-    let Looked::Found(a) = found else {
-        return put(out, at, 0);
-    };
-    let next = put(out, at, 1);
-    put_action(out, next, a)
-}
-
-// A refusal's number or 0, the window that is handed back, whether it was clipped, and the wait that is held.
-pub(crate) fn put_reaction(
-    out: &mut [u64],
-    at: usize,
-    refused: u32,
-    window: u32,
-    clipped: bool,
-    wait: f64,
-) -> usize
-    requires { at ≤ length out.old }
-    ensures { Puts out.old at (refused ∷ (window ∷ (flag_byte clipped ∷ (bits wait ∷ [])))) result out.new }
-{
-    let flag = flag_of(clipped) as u64;
-    let next = put_three(out, at, refused as u64, window as u64, flag);
-    put(out, next, floats::to_bits(wait))
-}
-
-fn put_mode(out: &mut [u64], at: usize, mode: RepeatMode) -> usize
-    requires { at ≤ length out.old }
-    ensures { Puts out.old at (mode_words mode) result out.new }
+#[tactic(auto, unfolding(crate::specs::SenderWords::mode_words))]
+fn of_mode(mode: RepeatMode) -> [u64; 3]
+    ensures { result ≡ mode_words mode }
 {
     match mode {
-        RepeatMode::Off => put_three(out, at, 0, 0, 0),
-        RepeatMode::Always(n) => put_three(out, at, 1, n as u64, 0),
-        RepeatMode::Between(lo, hi) => put_three(out, at, 2, lo as u64, hi as u64),
+        RepeatMode::Off => [0, 0, 0],
+        RepeatMode::Always(n) => [1, u64::from(n), 0],
+        RepeatMode::Between(lo, hi) => [2, u64::from(lo), u64::from(hi)],
     }
 }
 
-// The seconds that a moment holds.
-fn number_of(t: Time) -> f64
-    ensures { result ≡ t.0 }
+// A moment's or a span's seconds, if there is one.
+#[tactic(auto, unfolding(crate::specs::SenderWords::number_words))]
+fn of_number(seconds: Option<f64>) -> [u64; 2]
+    ensures { result ≡ number_words seconds }
 {
-    t.held()
-}
-
-fn put_moment(out: &mut [u64], at: usize, moment: Moment) -> usize
-    requires { at ≤ length out.old }
-    ensures { Puts out.old at (moment_words moment) result out.new }
-{
-    match moment {
-        Moment::Never => put_pair(out, at, 0, 0),
-        Moment::At(t) => put_pair(out, at, 1, floats::to_bits(number_of(t))),
+    match seconds {
+        Some(x) => [1, floats::to_bits(x)],
+        None => [0, 0],
     }
 }
 
-fn put_average(out: &mut [u64], at: usize, average: Average) -> usize
-    requires { at ≤ length out.old }
-    ensures { Puts out.old at (average_words average) result out.new }
-{
-    match average {
-        Average::Empty => put_pair(out, at, 0, 0),
-        Average::Of(x) => put_pair(out, at, 1, floats::to_bits(x.0)),
-    }
-}
-
-fn put_trips(out: &mut [u64], at: usize, rtt: Rtt) -> usize
-    requires { at ≤ length out.old }
-    ensures { Puts out.old at (trip_words rtt) result out.new }
+#[tactic(auto, unfolding(crate::specs::SenderWords::trip_words))]
+fn of_trips(rtt: Option<Rtt>) -> [u64; 3]
+    ensures { result ≡ trip_words rtt }
 {
     match rtt {
-        Rtt::Unknown => put_three(out, at, 0, 0, 0),
-        Rtt::Known(shortest, current) => {
-            let least = floats::to_bits(shortest.0);
-            let last = floats::to_bits(current.0);
-            put_three(out, at, 1, least, last)
-        }
+        Some(trips) => [
+            1,
+            floats::to_bits(trips.shortest.0),
+            floats::to_bits(trips.current.0),
+        ],
+        None => [0, 0, 0],
     }
 }
 
-fn put_pending(out: &mut [u64], at: usize, pending: Pending) -> usize
-    requires { at ≤ length out.old }
-    ensures { Puts out.old at (pending_words pending) result out.new }
+#[tactic(auto, unfolding(crate::specs::SenderWords::pending_words))]
+fn of_pending(pending: Option<Repeat>) -> [u64; 5]
+    ensures { result ≡ pending_words pending }
 {
-    match pending {
-        Pending::Idle => {
-            let next = put_pair(out, at, 0, 0);
-            put_three(out, next, 0, 0, 0)
-        }
-        Pending::Repeat(left, a) => {
-            let next = put_pair(out, at, 1, left as u64);
-            put_action(out, next, a)
-        }
-    }
+    let Some(repeat) = pending else {
+        return [0, 0, 0, 0, 0];
+    };
+    let [multiplier, increment, delay] = of_action(repeat.action);
+    [1, u64::from(repeat.left), multiplier, increment, delay]
 }
 
-// The whole sender.
-pub(crate) fn put_sender(out: &mut [u64], at: usize, s: Sender) -> usize
-    requires { at ≤ length out.old }
-    ensures { Puts out.old at (sender_words s) result out.new }
-{
-    let repeats = s.repeat_actions;
-    let last_ack = s.last_ack;
-    let last_ack_send = s.last_ack_send;
-    let ack_ewma = s.ack_ewma;
-    let send_ewma = s.send_ewma;
-    let rtt = s.rtt;
-    let next_change = s.next_change;
-    let last_send = s.last_send;
-    let wait = floats::to_bits(s.intersend_delay.0);
-    let mode = put_mode(out, at, repeats);
-    let acked = put_moment(out, mode, last_ack);
-    let sent = put_moment(out, acked, last_ack_send);
-    let acks = put_average(out, sent, ack_ewma);
-    let sends = put_average(out, acks, send_ewma);
-    let trips = put_trips(out, sends, rtt);
-    let pending = put_pending(out, trips, next_change);
-    let standing = put_moment(out, pending, last_send);
-    put_pair(out, standing, s.window as u64, wait)
+// The lent words, and the place of the next one.
+#[derive(Drop)]
+pub(crate) struct Writer<'a> {
+    pub(crate) out: &'a mut [u64],
+    pub(crate) at: usize,
+    ghost within: { at ≤ length out.now },
+}
+
+impl<'a> Writer<'a> {
+    ghost use Rattle.std.specs.Prelude.{[], ◌∷◌, Result, Float};
+    ghost use Rattle.wire.specs.Bytes.{flag_byte};
+    ghost use Rattle.runs.specs.SenderWords.{bits, sender_words};
+    ghost use Rattle.runs.specs.Ran.{question_words, looked_words};
+    ghost use Rattle.runs.specs.Writing.{Appends};
+
+    pub(crate) fn new(out: &'a mut [u64]) -> Writer<'a>
+        ensures same { result.out.ghost_name ≡ out.entry.ghost_name }
+        ensures words { result.out.now ≡ out.old }
+        ensures first { result.at ≡ 0 }
+    {
+        Writer { out, at: 0 }
+    }
+
+    pub(crate) fn put_all(&mut self, words: &[u64])
+        ensures { Appends self.old words.now self.new }
+    {
+        let n = words.len().min(self.out.len() - self.at);
+        let end = self.at + n;
+        self.out[self.at..end].copy_from_slice(&words[..n]);
+        self.at = end;
+    }
+
+    pub(crate) fn put(&mut self, x: u64)
+        ensures { Appends self.old (x ∷ []) self.new }
+    {
+        self.put_all(&[x]);
+    }
+
+    // A word for each byte.
+    #[tactic(auto, using(crate::proofs::Putting::as_words))]
+    pub(crate) fn put_bytes(&mut self, bytes: &[u8])
+        ensures { Appends self.old bytes.now self.new }
+    {
+        for b in bytes {
+            self.put(u64::from(*b));
+        }
+    }
+
+    #[tactic(auto, unfolding(crate::specs::Ran::question_words))]
+    pub(crate) fn put_question(&mut self, question: Result<Question, Refusal>)
+        ensures { Appends self.old (question_words question) self.new }
+    {
+        match question {
+            Ok(Question::Counts(progress)) => self.put_all(&[1, floats::to_bits(progress)]),
+            Ok(Question::Score(leaf, a, progress)) => {
+                let [multiplier, increment, delay] = of_action(a);
+                let progress = floats::to_bits(progress);
+                self.put_all(&[2, u64::from(leaf), multiplier, increment, delay, progress]);
+            }
+            Ok(Question::Done(progress)) => self.put_all(&[3, floats::to_bits(progress)]),
+            Err(_) => {}
+        }
+    }
+
+    #[tactic(auto, unfolding(crate::specs::Ran::looked_words))]
+    pub(crate) fn put_looked(&mut self, found: Result<Option<Action>, Refusal>)
+        ensures { Appends self.old (looked_words found) self.new }
+    {
+        let Ok(Some(a)) = found else {
+            self.put(0);
+            return;
+        };
+        let [multiplier, increment, delay] = of_action(a);
+        self.put_all(&[1, multiplier, increment, delay]);
+    }
+
+    // A refusal's number or 0, the window that is handed back, whether it was clipped, and the wait that is held.
+    pub(crate) fn put_reaction(&mut self, refused: Option<Refusal>, held: Held)
+        ensures { Appends self.old (number_or_0 refused ∷ (held.window ∷ (flag_byte held.clipped ∷ (bits held.sender.intersend_delay.0 ∷ [])))) self.new }
+    {
+        let clipped = u64::from(flag_of(held.clipped));
+        let wait = floats::to_bits(held.sender.intersend_delay.0);
+        self.put_all(&[of_refusal(refused), u64::from(held.window), clipped, wait]);
+    }
+
+    // The whole sender, in words. host_sender puts the same fields as bytes, and replay as lines: one walk for all three is no plainer.
+    pub(crate) fn put_sender(&mut self, s: Sender)
+        ensures { Appends self.old (sender_words s) self.new }
+    {
+        self.put_all(&of_mode(s.repeat_actions));
+        self.put_all(&of_number(s.last_ack.map(Time::held)));
+        self.put_all(&of_number(s.last_ack_send.map(Time::held)));
+        self.put_all(&of_number(s.ack_ewma.map(|span| span.0)));
+        self.put_all(&of_number(s.send_ewma.map(|span| span.0)));
+        self.put_all(&of_trips(s.rtt));
+        self.put_all(&of_pending(s.next_change));
+        self.put_all(&of_number(s.last_send.map(Time::held)));
+        self.put_all(&[u64::from(s.window), floats::to_bits(s.intersend_delay.0)]);
+    }
 }

@@ -1,43 +1,43 @@
 -- What is printed of a record that a load takes and of the bytes after it. Assumes nothing.
-use mathlib.Core.Path.{◌≡◌, refl, sym, ap, ◌∙◌}
+use mathlib.Core.Path.{◌≡◌, refl, ap, ◌∙◌}
 use mathlib.Core.Bool.{Bool, true, false, ◌&&◌, cond}
-use mathlib.Core.List.{List, ◌++◌}
+use mathlib.Core.List.{List, [], ◌∷◌, ◌++◌}
 use Prim.Native.Nat.{ℕ, ◌+◌, ◌-◌, ◌≤◌}
 use native.Mathlib.Omega.{arith}
 use borrow.Author.Tests.{le-leb, leb-true, eqb-true}
 use lib.Dec.{eqb, leb}
 use lib.ListN.{length, length-append}
 use lib.Seq.{take-append-le, take_at, drop_at}
+use Rattle.std.specs.Prelude.{Ok, Err}
+use Rattle.refusal.specs.declared.Refusal.TheVariants.{BadField, BadLength, BadTrace, UnknownVersion}
+use Rattle.refusal.specs.Numbers.{number_of}
+use Rattle.refusal.specs.Guards.{check, checked}
 use Rattle.rule_tree.specs.declared.RuleTree.{RuleTree}
 use Rattle.rule_tree.proofs.Lists.{and_left, and_right}
-use Rattle.trainer.specs.declared.Answered.{Answered}
-use Rattle.trainer.specs.Phases.{refuse, taken}
-use Rattle.trainer.specs.Calls.{blank_trainer}
+use Rattle.trainer.specs.declared.Trainer.{Trainer}
 use Rattle.wire.specs.Bytes.{number_at, value_from}
 use Rattle.record.specs.Read.{read_of}
 use Rattle.record.specs.Calls.{length_holds, version_holds, body_holds, load_of}
+use Rattle.record.proofs.BytesFit.{loaded_is}
 use Rattle.panel_lines.specs.Panel.{record_part, start_holds, tree_in}
-use Rattle.panel_lines.proofs.Nested.{part_held, loaded}
-use Rattle.trace_lines.specs.Trace.{trace_part, trace_holds, refusal_line, lines_over, printed_of}
+use Rattle.panel_lines.proofs.Nested.{part_held}
+use Rattle.trace_lines.specs.Trace.{trace_part, trace_holds, refusal_line, lines_over, printed_by, printed_of}
 
 -- the lines over a tree, or the one refusal
 abbrev pub traced : RuleTree → List ℕ → List ℕ
 traced t bytes = cond (trace_holds bytes) (lines_over t bytes) (refusal_line 25)
 
--- ---- the three tests of the record
-abbrev line_by : Bool → Bool → Bool → List ℕ → List ℕ
-line_by x y z rest = cond x (cond y (cond z rest (refusal_line 8)) (refusal_line 7)) (refusal_line 6)
-
-printed_as : (input : List ℕ)
-    → printed_of input ≡ line_by (start_holds input) (version_holds (record_part input)) (body_holds (record_part input)) (traced (tree_in input) (trace_part input))
-unfolding printed_of
-printed_as input = refl
-
+-- ---- where the record's three checks hold
 module _ (input : List ℕ) (x : start_holds input ≡ true) (y : version_holds (record_part input) ≡ true) (z : body_holds (record_part input) ≡ true) where
   pub printed_traced : printed_of input ≡ traced (tree_in input) (trace_part input)
-  printed_traced = printed_as input ∙ rw (x, y, z)
+  unfolding printed_of printed_by number_of
+  printed_traced = rw (x, y, z) (by (trace_holds (trace_part input)) (lines_over (tree_in input) (trace_part input)))
+    where
+      by : (b : Bool) (text : List ℕ) → printed_by (cond b (Ok text) (Err BadTrace)) ≡ cond b text (refusal_line 25)
+      by true text = refl
+      by false text = refl
 
-  pub loads : load_of (record_part input) ≡ taken (read_of (record_part input))
+  pub loads : load_of (record_part input) ≡ Ok (read_of (record_part input))
   unfolding load_of
   loads = let l = part_held input x in rw (l, y, z)
 
@@ -47,25 +47,25 @@ pub record Held (r : List ℕ) : Type 0 where
   pub version_held : version_holds r ≡ true
   pub body_held : body_holds r ≡ true
 
-held : (r : List ℕ) → (load_of r).refused ≡ 0 → Held r
-unfolding load_of
-held r h = by (length_holds r) (version_holds r) (body_holds r) refl refl refl h
-  where
-    by : (x y z : Bool) → length_holds r ≡ x → version_holds r ≡ y → body_holds r ≡ z
-        → (cond x (cond y (cond z (taken (read_of r)) (refuse 8 blank_trainer)) (refuse 7 blank_trainer)) (refuse 6 blank_trainer)).refused ≡ 0 → Held r
-    by true true true a b c h = record { length_held = a; version_held = b; body_held = c }
-    by true true false a b c h = absurd (omega arith)
-    by true false z a b c h = absurd (omega arith)
-    by false y z a b c h = absurd (omega arith)
+module _ (r bytes : List ℕ) (t : Trainer) (h : load_of r ≡ Ok t) where
+  held : Held r
+  unfolding load_of
+  held = by (length_holds r) (version_holds r) (body_holds r) refl refl refl h
+    where
+      by : (x y z : Bool) → length_holds r ≡ x → version_holds r ≡ y → body_holds r ≡ z
+          → checked (check x BadLength ∷ check y UnknownVersion ∷ check z BadField ∷ []) (Ok (read_of r)) ≡ Ok t → Held r
+      by true true true a b c e = record { length_held = a; version_held = b; body_held = c }
+      by true true false a b c e = absurd (cc)
+      by true false z a b c e = absurd (cc)
+      by false y z a b c e = absurd (cc)
 
-module _ (r bytes : List ℕ) (h : (load_of r).refused ≡ 0) where
   rest : Bool
   rest = leb (number_at r 0 4) 16384 && eqb (number_at r 0 4) (length r - 4)
 
   bounds : (4 ≤ length r) × (number_at r 0 4 ≤ 16384) × (number_at r 0 4 ≡ length r - 4)
   unfolding length_holds rest
   bounds =
-      let l = (held r h).length_held in
+      let l = held.length_held in
       let m = and_right (leb 4 (length r)) rest l in (
         leb-true 4 (length r) (and_left (leb 4 (length r)) rest l),
         leb-true (number_at r 0 4) 16384 (and_left (leb (number_at r 0 4) 16384) (eqb (number_at r 0 4) (length r - 4)) m),
@@ -93,10 +93,10 @@ module _ (r bytes : List ℕ) (h : (load_of r).refused ≡ 0) where
   trace_is : trace_part (r ++ bytes) ≡ bytes
   trace_is = drop_at r bytes _ place
 
-  tree_is : tree_in (r ++ bytes) ≡ (load_of r).trainer.tree
-  tree_is = ap (λ (p : List ℕ). (read_of p).tree) record_is ∙ ap (λ (a : Answered). a.trainer.tree) (sym (loaded r h))
+  tree_is : tree_in (r ++ bytes) ≡ t.tree
+  tree_is = ap (λ (p : List ℕ). (read_of p).tree) record_is ∙ ap (λ (u : Trainer). u.tree) (loaded_is r t h)
 
-  pub printed_joined : printed_of (r ++ bytes) ≡ traced (load_of r).trainer.tree bytes
+  pub printed_joined : printed_of (r ++ bytes) ≡ traced t.tree bytes
   printed_joined =
-      printed_traced (r ++ bytes) starts (ap version_holds record_is ∙ (held r h).version_held) (ap body_holds record_is ∙ (held r h).body_held)
+      printed_traced (r ++ bytes) starts (ap version_holds record_is ∙ held.version_held) (ap body_holds record_is ∙ held.body_held)
       ∙ (λ j. traced (tree_is j) (trace_is j))

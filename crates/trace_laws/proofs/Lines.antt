@@ -1,58 +1,56 @@
 -- Every event's line is the plain sender's, and so are all of them. Assumes nothing.
 use mathlib.Core.Path.{◌≡◌, refl, sym, ap, subst, ◌∙◌}
-use mathlib.Core.Bool.{Bool, true, false, cond}
 use mathlib.Core.List.{List, [], ◌∷◌, ◌++◌}
-use mathlib.Core.Logic.{◌≢◌}
 use Prim.Native.Nat.{ℕ}
-use borrow.Author.Tests.{eqb-false}
-use lib.Dec.{eqb}
+use native.Mathlib.Omega.{arith}
+use borrow.Author.Tests.{ne_eqb}
+use Rattle.std.specs.Prelude.{Result, Ok, Err}
+use Rattle.refusal.specs.declared.Refusal.{Refusal}
+use Rattle.refusal.specs.Numbers.{number_of}
 use Rattle.sender.specs.declared.Event.{Event}
 use Rattle.sender.specs.declared.Event.TheVariants.{Ack, Send, Tick}
 use Rattle.sender.specs.declared.RepeatMode.TheVariants.{Off}
 use Rattle.sender.specs.declared.Sender.{Sender}
-use Rattle.sender.specs.declared.Reply.{Reply}
-use Rattle.sender.specs.declared.Reply.TheVariants.{Taken, Refused}
+use Rattle.sender.specs.declared.Held.{Held}
 use Rattle.sender.specs.SenderCall.{tick, on}
 use Rattle.sender.specs.Sender.{fresh_sender, replied_to, left_by}
+use Rattle.sender.proofs.AckNumbers.{above_0}
 use Rattle.promise.specs.PlainTree.{Tree}
-use Rattle.promise.specs.PlainSender.{PlainSender, Reaction, refuse, state_of, react}
-use Rattle.promise.specs.SenderRuns.{event, plain_start, plain_sender_events}
+use Rattle.promise.specs.PlainSender.{PlainSender, state_of, react}
+use Rattle.promise.specs.SenderRuns.{event, SenderStep, taken, after_reply, plain_start, plain_sender_events}
 use Rattle.promise.proofs.Embed.{embed_tree, ValidTree}
 use Rattle.promise.proofs.SenderRender.{start_renders}
-use Rattle.promise.proofs.SenderSteps.{held_of, reply_of, ack_step, send_step, tick_step, refused_stays}
-use Rattle.trace_lines.specs.Trace.{line_of, lines_from, window_line, refusal_line}
+use Rattle.promise.proofs.SenderSteps.{held_of, plain_step, ack_step, send_step, tick_step}
+use Rattle.trace_lines.specs.Trace.{line_of, lines_from}
 use Rattle.trace_lines.proofs.Showing.{lines_none, lines_more}
 use Rattle.trace_laws.specs.PlainTrace.{plain_line, lines_of, calls_on, plain_lines}
 
--- ---- a reaction's reply: its line, and the sender that it leaves
-module _ (s : PlainSender) (o : Reaction) where
-  line_same : line_of (reply_of o) ≡ plain_line (event o.refused o.window o.clipped)
-  unfolding line_of reply_of plain_line
-  line_same = by (eqb o.refused 0)
-    where
-      by : (b : Bool) → line_of (cond b (Taken (held_of o)) (Refused o.refused)) ≡ cond b (window_line o.window o.clipped) (refusal_line o.refused)
-      by true = refl
-      by false = refl
+-- ---- a reply: its line, and the sender that it leaves
+module _ (s : Sender) where
+  reply_line : (r : Result Held Refusal) → line_of r ≡ plain_line (after_reply s r).event
+  unfolding line_of after_reply plain_line
+  reply_line (Ok h) = refl
+  reply_line (Err r) =
+      let a = above_0 r in
+      let e = ne_eqb (number_of r) 0 (λ z. absurd (omega (arith, z))) in
+      rw e
 
-  left_same : (o.refused ≢ 0 → o ≡ refuse o.refused s) → left_by (state_of s) (reply_of o) ≡ state_of o.sender
-  unfolding left_by reply_of
-  left_same h = by (eqb o.refused 0) refl
-    where
-      by : (b : Bool) → eqb o.refused 0 ≡ b → left_by (state_of s) (cond b (Taken (held_of o)) (Refused o.refused)) ≡ state_of o.sender
-      by true e = refl
-      by false e = ap (λ (x : Reaction). state_of x.sender) (sym (h (eqb-false o.refused 0 e)))
+  reply_left : (r : Result Held Refusal) → left_by s r ≡ (after_reply s r).sender
+  unfolding left_by after_reply
+  reply_left (Ok h) = refl
+  reply_left (Err r) = refl
 
 -- ---- an event over a valid tree
-tick_reply : (s : PlainSender) → Taken (held_of (react s tick)) ≡ reply_of (react s tick)
-unfolding react reply_of
-tick_reply s = refl
+tick_taken : (s : PlainSender) → taken (held_of (react s tick)) ≡ plain_step (react s tick)
+unfolding react
+tick_taken s = refl
 
 module _ (u : Tree) (v : ValidTree u) where
-  event_step : (s : PlainSender) (e : Event) → replied_to (state_of s) (on (embed_tree u) e) ≡ reply_of (react s (on u e))
-  unfolding replied_to on
-  event_step s (Ack sent received draw) = ack_step u v s sent received draw
+  event_step : (s : PlainSender) (e : Event) → after_reply (state_of s) (replied_to (state_of s) (on (embed_tree u) e)) ≡ plain_step (react s (on u e))
+  unfolding after_reply replied_to on
+  event_step s (Ack x) = ack_step u v s x.sent x.received x.draw
   event_step s (Send at) = send_step s at
-  event_step s Tick = ap Taken (tick_step s) ∙ tick_reply s
+  event_step s Tick = ap taken (tick_step s) ∙ tick_taken s
 
   plain_more : (s : PlainSender) (e : Event) (es : List Event)
       → lines_of (plain_sender_events s (calls_on u (e ∷ es)))
@@ -68,10 +66,11 @@ module _ (u : Tree) (v : ValidTree u) where
   lines_from_lem [] s = lines_none (embed_tree u) (state_of s) ∙ sym (plain_none s)
   lines_from_lem (e ∷ es) s =
       let o = react s (on u e) in
+      let r = replied_to (state_of s) (on (embed_tree u) e) in
       lines_more (embed_tree u) (state_of s) e es
-      ∙ ap (λ (r : Reply). line_of r ++ lines_from (embed_tree u) (left_by (state_of s) r) es) (event_step s e)
-      ∙ ap (λ (l : List ℕ). l ++ lines_from (embed_tree u) (left_by (state_of s) (reply_of o)) es) (line_same s o)
-      ∙ ap (λ (w : Sender). plain_line (event o.refused o.window o.clipped) ++ lines_from (embed_tree u) w es) (left_same s o (refused_stays s (on u e)))
+      ∙ ap (λ (l : List ℕ). l ++ lines_from (embed_tree u) (left_by (state_of s) r) es) (reply_line (state_of s) r)
+      ∙ ap (λ (w : Sender). plain_line (after_reply (state_of s) r).event ++ lines_from (embed_tree u) w es) (reply_left (state_of s) r)
+      ∙ ap (λ (p : SenderStep). plain_line p.event ++ lines_from (embed_tree u) p.sender es) (event_step s e)
       ∙ ap (λ (l : List ℕ). plain_line (event o.refused o.window o.clipped) ++ l) (lines_from_lem es o.sender)
       ∙ sym (plain_more s e es)
 

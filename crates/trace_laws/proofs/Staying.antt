@@ -15,7 +15,7 @@ use Rattle.trace_laws.specs.PlainTrace.{calls_on}
 acks_on : (P : Tree → Type 0) (u : Tree) → P u → (es : List Event) → AcksOver P (calls_on u es)
 unfolding on
 acks_on P u p [] = tt
-acks_on P u p (Ack sent received draw ∷ es) = (p, acks_on P u p es)
+acks_on P u p (Ack x ∷ es) = (p, acks_on P u p es)
 acks_on P u p (Send at ∷ es) = acks_on P u p es
 acks_on P u p (Tick ∷ es) = acks_on P u p es
 

@@ -6,9 +6,9 @@ use Prim.Native.Nat.{ℕ, ◌≤◌}
 use lib.ListN.{length}
 use Rattle.rule_tree.specs.declared.RuleTree.{RuleTree}
 use Rattle.trainer.specs.declared.settings.Settings.{Settings}
-use Rattle.trainer.specs.declared.Answered.{Answered}
 use Rattle.trainer.specs.Settings.{settings_hold}
-use Rattle.record.specs.Calls.{version_holds, body_holds, load_of}
+use Rattle.record.specs.Read.{read_of}
+use Rattle.record.specs.Calls.{version_holds, body_holds}
 use Rattle.panel_lines.specs.Panel.{record_part, start_holds, tree_in}
 use Rattle.sender.specs.declared.Event.{Event}
 use Rattle.promise.specs.PlainTree.{Tree}
@@ -16,7 +16,7 @@ use Rattle.promise.specs.PlainTrainer.{State, Call, start, step, record_bytes}
 use Rattle.promise.specs.Values.{Every, FitSettings, FitCall}
 use Rattle.promise.specs.Demand3.{SameTree, plain_end_of}
 use Rattle.promise.proofs.Embed.{embed_tree, ValidTree}
-use Rattle.promise.proofs.States.{ValidState}
+use Rattle.promise.proofs.States.{ValidState, embed}
 use Rattle.promise.proofs.Accepted.{tree_of}
 use Rattle.promise.proofs.Begins.{start_valid}
 use Rattle.promise.proofs.Fitting.{FitState, point-fits, start_fits, step_fits}
@@ -25,7 +25,7 @@ use Rattle.promise.proofs.Runs.{end_valid}
 use Rattle.promise.proofs.Reload.{load_embeds}
 use Rattle.promise.proofs.Ways.{tree_same}
 use Rattle.promise.proofs.Loads.{load_accepted, load_typed}
-use Rattle.promise.proofs.Unembed.{accepted_grown}
+use Rattle.trainer.proofs.AcceptedFacts.{accepted_grown}
 use Rattle.promise.proofs.UnembedTree.{plain_tree, tree_valid, tree_back}
 use Rattle.trace_lines.specs.Trace.{trace_part, events, printed_of}
 use Rattle.trace_lines.specs.Encoding.{events_bytes, trace_bytes, FitEvents}
@@ -44,15 +44,13 @@ traces u v t e bytes printed p =
 
 -- ---- the record of a plain trainer's state
 module _ (st : State) (v : ValidState st) (f : FitState st) where
-  state_tree : (load_of (record_bytes st)).trainer.tree ≡ embed_tree st.tree
-  state_tree =
-      ap (λ (a : Answered). a.trainer.tree) (load_embeds st v f)
-      ∙ tree_of st.settings (embed_tree st.tree) st.stage st.round st.phase
+  state_tree : (embed st).tree ≡ embed_tree st.tree
+  state_tree = tree_of st.settings (embed_tree st.tree) st.stage st.round st.phase
 
   pub state_traces : (bytes : List ℕ) → Traces st.tree bytes (printed_of (record_bytes st ++ bytes))
   state_traces bytes =
-      traces st.tree v.tree (load_of (record_bytes st)).trainer.tree state_tree bytes (printed_of (record_bytes st ++ bytes))
-      (printed_joined (record_bytes st) bytes (ap (λ (a : Answered). a.refused) (load_embeds st v f)))
+      traces st.tree v.tree (embed st).tree state_tree bytes (printed_of (record_bytes st ++ bytes))
+      (printed_joined (record_bytes st) bytes (embed st) (load_embeds st v f))
 
 -- a list of calls leaves a state whose values are of their types
 end_fits : (st : State) (cs : List Call) → ValidState st → FitState st → Every FitCall cs → FitState (plain_end_of st cs)
@@ -76,20 +74,15 @@ module _ (s : Settings) (h : settings_hold s ≡ true) (f : FitSettings s) (cs :
 
 -- ---- every record that is accepted, and whatever follows it
 module _ (input : List ℕ) (x : start_holds input ≡ true) (y : version_holds (record_part input) ≡ true) (z : body_holds (record_part input) ≡ true) where
-  zero_refused : (load_of (record_part input)).refused ≡ 0
-  zero_refused = ap (λ (a : Answered). a.refused) (loads input x y z)
-
-  tree_is : tree_in input ≡ (load_of (record_part input)).trainer.tree
-  tree_is = ap (λ (a : Answered). a.trainer.tree) (sym (loads input x y z))
-
   pub every_record : PlainRecord input
   every_record =
-      let t = (load_of (record_part input)).trainer in
-      let a = load_accepted (record_part input) zero_refused in
-      let f = load_typed (record_part input) zero_refused in
+      let t = read_of (record_part input) in
+      let h = loads input x y z in
+      let g = accepted_grown t (load_accepted (record_part input) h) in
+      let f = load_typed (record_part input) h in
       let u = plain_tree t.tree in
-      let v = tree_valid t.tree (accepted_grown t a) f.sized f.ends in
-      let e : tree_in input ≡ embed_tree u = tree_is ∙ sym (tree_back t.tree (accepted_grown t a) f.sized f.nodes) in
+      let v = tree_valid t.tree g f.sized f.ends in
+      let e : tree_in input ≡ embed_tree u = sym (tree_back t.tree g f.sized f.nodes) in
       record {
         tree = u;
         same = subst (λ (r : RuleTree). SameTree r u) (sym e) (tree_same u v);

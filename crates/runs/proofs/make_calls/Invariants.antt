@@ -1,12 +1,13 @@
--- The loop's invariant: what is left to put, once it is put, makes the whole. Assumes nothing.
-use Rattle.runs.proofs.Looping as law
-use Prim.Native.Nat.{◌-◌}
+-- What is left to put, once it is put, makes the whole.
 use lib.ListN.{length}
-use Rattle.runs.specs.Turn.{Puts}
+use Rattle.runs.specs.Script.{calls_of}
+use Rattle.runs.specs.Ran.{ran_from}
+use Rattle.runs.proofs.Looping.{Stood}
 use Rattle.runs.proofs.make_calls.Given as goal
 
-abbrev pub invariant-loop-size : goal.invariant-loop-size
-invariant-loop-size l = law.Stood (Puts l.initial.out l.initial.state.at (law.words_from l.script l.initial.state l.from)) l.script l.initial.out l.out l.state l.p l.size
+abbrev pub invariant-loop-call : goal.invariant-loop-call
+invariant-loop-call l =
+    Stood (length l.script) l.initial.w (ran_from l.fn.start.trainer l.fn.start.sender (calls_of l.script)) l.state l.w l.rest
 
-abbrev pub decreases-loop-size : goal.decreases-loop-size
-decreases-loop-size l = length l.script - l.p
+abbrev pub decreases-loop-call : goal.decreases-loop-call
+decreases-loop-call l = length l.rest

@@ -1,8 +1,15 @@
--- The words by the contracts are those of the plain trainer and sender. Assumes nothing.
-use Rattle.runs.proofs.Putting as put
-use Rattle.runs.specs.Compared.{compared_of}
+-- The words by the contracts are those of the plain trainer and sender.
+use mathlib.Core.Path.{sym, ◌∙◌}
+use native.Mathlib.Omega.{arith}
+use Rattle.runs.proofs.Putting as law
 use Rattle.runs.proofs.Agrees.{agrees}
 use Rattle.runs.proofs.run.Goals as goal
 
 pub returns : goal.returns
-returns c = put.all_laid (compared_of c.args.script.now) c.args.out.now (put.spelt c.args.out.now 0 (agrees c.args.script.now) c.run_all.ensures)
+returns c =
+    let n = c.new-w.ensures in
+    let s = c.run_all.ensures in
+    let p = law.all_put c.args.out.now n.words n.first (agrees c.args.script.now) s in
+    let name = sym (s.same ∙ n.same) in
+    let laid = p.1 in
+    (p.0, grind arith)

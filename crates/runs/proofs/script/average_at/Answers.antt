@@ -1,9 +1,0 @@
--- None, or an average. Assumes nothing.
-use Rattle.runs.proofs.SenderReads as law
-use Rattle.runs.proofs.script.average_at.Goals as goal
-
-pub returns-then-word-eq0 : goal.returns-then-word-eq0
-returns-then-word-eq0 c = law.empty c.args.ws.now c.args.i c.word.ensures c.if-word-eq0.true
-
-pub returns : goal.returns
-returns c = law.averaged c.args.ws.now c.args.i c.word.ensures c.if-word-eq0.false c.float.ensures
