@@ -1,11 +1,11 @@
--- What a host gets back: a size, or 2^63 plus the number of a refusal.
-use Rattle.std.specs.Prelude.{ℕ, ◌+◌}
-use Rattle.record.specs.declared.Saved.{Saved}
-use Rattle.record.specs.declared.Saved.TheVariants.{Size, Refused}
+-- What a host gets back: a value, or 2^63 plus the number of a refusal.
+use Rattle.std.specs.Prelude.{ℕ, ◌+◌, Result, Ok, Err}
+use Rattle.refusal.specs.declared.Refusal.{Refusal}
+use Rattle.refusal.specs.Numbers.{number_of}
 
-abbrev pub refusal : ℕ → ℕ
-refusal k = 9223372036854775808 + k
+abbrev pub refusal : Refusal → ℕ
+refusal r = 9223372036854775808 + number_of r
 
-unfoldable pub answer_of : Saved → ℕ
-answer_of (Size n) = n
-answer_of (Refused k) = refusal k
+unfoldable pub answer_of : Result ℕ Refusal → ℕ
+answer_of (Ok n) = n
+answer_of (Err r) = refusal r

@@ -1,148 +1,170 @@
 -- Group by group: every trainer on the way is accepted, and the rest of the list answers what the whole list does. Assumes nothing.
-use mathlib.Core.Path.{◌≡◌, refl, sym, ap, subst, ◌∙◌}
+use mathlib.Core.Path.{◌≡◌, refl, sym, ap, ◌∙◌}
 use mathlib.Core.Bool.{Bool, true, false, cond}
 use mathlib.Core.List.{List}
-use Prim.Native.Nat.{ℕ, zero, suc, ◌+◌, ◌-◌, ◌<◌, ◌≤◌}
+use Prim.Native.Nat.{ℕ, zero, suc, ◌+◌, ◌-◌, ◌*◌, ◌/◌, ◌<◌, ◌≤◌}
 use native.Mathlib.Omega.{arith}
-use borrow.Author.Tests.{eq-eqb, ne_eqb}
+use borrow.Author.Tests.{eq-eqb, ne_eqb, le-leb, lt-leb}
 use lib.Dec.{eqb, leb}
 use lib.ListN.{length, get_or, take, drop, length-drop}
-use lib.Seq.{length-take-le, take_all, drop-drop}
-use Rattle.remy.specs.Cube as cube
-use Rattle.rule_tree.specs.Nodes.{no_action}
+use lib.Seq.{take_all, length-take-le}
+use Rattle.std.specs.Prelude.{Result, Ok, Err, IfOk}
+use Rattle.std.proofs.lemmas.Result.{IfOk-at_ok}
+use Rattle.refusal.specs.declared.Refusal.{Refusal}
+use Rattle.refusal.specs.declared.Refusal.TheVariants.{BadLength}
 use Rattle.rule_tree.proofs.Lists.{length_tabulate}
-use Rattle.rule_tree.proofs.Changing.{fresh_length}
 use Rattle.trainer.specs.declared.Trainer.{Trainer}
-use Rattle.trainer.specs.declared.Answered.{Answered}
-use Rattle.trainer.specs.Phases.{refuse, taken}
-use Rattle.trainer.specs.Calls.{blank_trainer, answer_counts_of}
+use Rattle.trainer.specs.Calls.{answer_counts_of}
 use Rattle.trainer.proofs.Accepting.{Held, counts_held}
 use Rattle.record.specs.declared.inner.layout.Layout.{Layout}
 use Rattle.record.specs.Layout.{layout_of, given_action}
-use Rattle.record.specs.Read.{settings_at, split_count, node_at_place, read_in, version_at, read_of}
-use Rattle.record.specs.Calls.{length_holds, version_holds, body_holds, load_of}
+use Rattle.record.specs.Read.{settings_at, split_count, node_at_place, read_in, version_at}
+use Rattle.record.specs.Calls.{load_of}
 use Rattle.record.proofs.Loading.{load_again}
-use Rattle.host_trainer.specs.Records.{on_trainer, counts_in}
+use Rattle.record.proofs.BytesFit.{loaded_is}
+use Rattle.host_trainer.specs.Records.{counts_in}
 use Rattle.host_answers.specs.Answers.{scores_on, group_count, group_size, group_body, group_on, groups_on, answers_in}
-use Rattle.host_answers.specs.Parts.{Ready}
-use Rattle.host_answers.proofs.Scores.{held_from, on_refused, on_taken, scores_held}
+use Rattle.host_answers.specs.Parts.{Ready, kind_of, answers_on}
+use Rattle.host_answers.specs.declared.inner.groups.Kind.{Kind}
+use Rattle.host_answers.specs.declared.inner.groups.Kind.TheVariants.{Counts, Scores}
+use Rattle.host_answers.proofs.Scores.{held_from, scores_held}
 
 -- ---- the trainer of a record
 read_whole : (lay : Layout) (held : List ℕ) → length (read_in lay held).tree.nodes ≡ 513
 read_whole lay held = length_tabulate 513 (node_at_place lay (given_action (settings_at lay held 5)) held (split_count lay held))
 
-load_whole : (held : List ℕ) → length (load_of held).trainer.tree.nodes ≡ 513
-unfolding load_of
-load_whole held = go (length_holds held) (version_holds held) (body_holds held)
-  where
-    go : (a b c : Bool)
-        → length (cond a (cond b (cond c (taken (read_of held)) (refuse 8 blank_trainer)) (refuse 7 blank_trainer)) (refuse 6 blank_trainer)).trainer.tree.nodes
-        ≡ 513
-    go true true true = read_whole (layout_of (version_at held)) held
-    go true true false = fresh_length (cube.point_of cube.zero cube.zero cube.zero) no_action
-    go true false c = fresh_length (cube.point_of cube.zero cube.zero cube.zero) no_action
-    go false b c = fresh_length (cube.point_of cube.zero cube.zero cube.zero) no_action
-
-pub load_ready : (held : List ℕ) {a : Answered} → a ≡ load_of held → a.refused ≡ 0 → Ready a.trainer
-load_ready held {a} e z =
+pub load_ready : (held : List ℕ) (t : Trainer) {a : Result Trainer Refusal} → a ≡ load_of held → a ≡ Ok t → Ready t
+load_ready held t e z =
+    let l = sym e ∙ z in
     record {
-      accepted = (load_again held a.trainer (sym e ∙ ap (λ (n : ℕ). refuse n a.trainer) z)).accepted;
-      whole = ap (λ (x : Answered). length x.trainer.tree.nodes) e ∙ load_whole held;
+      accepted = (load_again held t l).accepted;
+      whole = ap (λ (x : Trainer). length x.tree.nodes) (sym (loaded_is held t l)) ∙ read_whole (layout_of (version_at held)) held;
     }
 
--- ---- a group leaves an accepted trainer
-group_held : (t : Trainer) (bytes : List ℕ) → Held t → Held (group_on bytes t).trainer
+-- ---- a group by its kind and its bytes
+module _ (bytes : List ℕ) {s : ℕ} (e : s ≡ group_size bytes) where
+  pub rest_is : take (length bytes - s) (drop s bytes) ≡ drop (group_size bytes) bytes
+  rest_is = take_all (length bytes - s) (drop s bytes) (omega (arith, length-drop s bytes)) ∙ ap (λ (n : ℕ). drop n bytes) e
+
+  pub body_is : take (s - 3) (drop 3 bytes) ≡ group_body bytes
+  body_is = ap (λ (n : ℕ). take n (drop 3 bytes)) (let z : s - 3 ≡ 8 * group_count bytes = omega arith in z)
+
+pub group_is : (bytes : List ℕ) (t : Trainer) {kind : Kind} {body : List ℕ} → group_size bytes ≤ length bytes → kind_of (get_or bytes 0 0) ≡ Ok kind → body ≡ group_body bytes
+    → answers_on kind body t ≡ group_on bytes t
+unfolding group_on answers_on kind_of
+group_is bytes t {kind} {body} h k b = rw (b, le-leb (group_size bytes) (length bytes) h) (go (eqb (get_or bytes 0 0) 1) (eqb (get_or bytes 0 0) 2) kind k)
+  where
+    e : length (group_body bytes) / 8 ≡ group_count bytes
+    e = let n = length-take-le (8 * group_count bytes) (drop 3 bytes) (omega (arith, length-drop 3 bytes)) in omega arith
+
+    go : (x y : Bool) (z : Kind) → cond x (Ok Counts) (cond y (Ok Scores) (Err BadLength)) ≡ Ok z
+        → answers_on z (group_body bytes) t
+        ≡ cond x (answer_counts_of t (counts_in (group_body bytes))) (cond y (scores_on t (group_body bytes) (group_count bytes)) (Err BadLength))
+    go true y Counts q = refl
+    go true y Scores q = absurd (cc)
+    go false true Counts q = absurd (cc)
+    go false true Scores q = ap (scores_on t (group_body bytes)) e
+    go false false z q = absurd (cc)
+
+pub group_cut : (bytes : List ℕ) (t : Trainer) → length bytes < group_size bytes → group_on bytes t ≡ Err BadLength
+unfolding group_on
+group_cut bytes t h = rw (lt-leb (group_size bytes) (length bytes) h)
+
+pub group_unknown : (bytes : List ℕ) (t : Trainer) {r : Refusal} → group_size bytes ≤ length bytes → kind_of (get_or bytes 0 0) ≡ Err r → group_on bytes t ≡ Err r
+unfolding group_on kind_of
+group_unknown bytes t {r} h k = rw (le-leb (group_size bytes) (length bytes) h) (go (eqb (get_or bytes 0 0) 1) (eqb (get_or bytes 0 0) 2) k)
+  where
+    go : (x y : Bool) → cond x (Ok Counts) (cond y (Ok Scores) (Err BadLength)) ≡ Err r
+        → cond x (answer_counts_of t (counts_in (group_body bytes))) (cond y (scores_on t (group_body bytes) (group_count bytes)) (Err BadLength)) ≡ Err r
+    go true y q = absurd (cc)
+    go false true q = absurd (cc)
+    go false false q = cc
+
+-- a group leaves an accepted trainer
+group_held : (t : Trainer) (bytes : List ℕ) → Held t → IfOk (group_on bytes t) Held
 unfolding group_on
 group_held t bytes h = go (leb (group_size bytes) (length bytes)) (eqb (get_or bytes 0 0) 1) (eqb (get_or bytes 0 0) 2)
   where
     go : (a b c : Bool)
-        → Held
+        → IfOk
         (cond a
         (cond b (answer_counts_of t (counts_in (group_body bytes)))
-        (cond c (scores_on t (group_body bytes) (group_count bytes)) (refuse 6 t)))
-        (refuse 6 t)
-        ).trainer
+        (cond c (scores_on t (group_body bytes) (group_count bytes)) (Err BadLength)))
+        (Err BadLength)) Held
     go true true c = counts_held t (counts_in (group_body bytes)) h
     go true false true = scores_held t (group_body bytes) h (group_count bytes)
-    go true false false = h
-    go false b c = h
-
-pub group_ready : (t : Trainer) (bytes : List ℕ) {a : Answered} → Ready t → a ≡ group_on bytes t → Ready a.trainer
-group_ready t bytes {a} r e =
-    let h = subst (λ (x : Answered). Held x.trainer) (sym e) (group_held t bytes (held_from t r)) in
-    record { accepted = h.accepted; whole = h.whole }
+    go true false false = tt
+    go false b c = tt
 
 -- ---- the groups
-groups_stay : (fuel : ℕ) (bytes : List ℕ) (a : Answered) → (a.refused ≡ 0 → ⊥) → groups_on fuel bytes a ≡ a
+groups_stay : (fuel : ℕ) (bytes : List ℕ) (r : Refusal) → groups_on fuel bytes (Err r) ≡ Err r
 unfolding groups_on
-groups_stay zero bytes a n = refl
-groups_stay (suc fuel) bytes a n =
-    go (eqb (length bytes) 0)
-    (ap (groups_on fuel (drop (group_size bytes) bytes)) (on_refused a (group_on bytes) n) ∙ groups_stay fuel (drop (group_size bytes) bytes) a n)
+groups_stay zero bytes r = refl
+groups_stay (suc fuel) bytes r = go (eqb (length bytes) 0) (groups_stay fuel (drop (group_size bytes) bytes) r)
   where
-    go : (b : Bool) → groups_on fuel (drop (group_size bytes) bytes) (on_trainer a (group_on bytes)) ≡ a
-        → cond b a (groups_on fuel (drop (group_size bytes) bytes) (on_trainer a (group_on bytes))) ≡ a
+    go : (b : Bool) → groups_on fuel (drop (group_size bytes) bytes) (Err r) ≡ Err r
+        → cond b (Err r) (groups_on fuel (drop (group_size bytes) bytes) (Err r)) ≡ Err r
     go true q = refl
     go false q = q
 
-groups_end : (fuel : ℕ) (bytes : List ℕ) (a : Answered) → length bytes ≡ 0 → groups_on fuel bytes a ≡ a
+groups_end : (fuel : ℕ) (bytes : List ℕ) (t : Trainer) → length bytes ≡ 0 → groups_on fuel bytes (Ok t) ≡ Ok t
 unfolding groups_on
-groups_end zero bytes a e = refl
-groups_end (suc fuel) bytes a e = rw (eq-eqb (length bytes) 0 e)
+groups_end zero bytes t e = refl
+groups_end (suc fuel) bytes t e = rw (eq-eqb (length bytes) 0 e)
 
-groups_turn : (fuel : ℕ) (bytes : List ℕ) (a : Answered) → (length bytes ≡ 0 → ⊥) → a.refused ≡ 0
-    → groups_on (suc fuel) bytes a ≡ groups_on fuel (drop (group_size bytes) bytes) (group_on bytes a.trainer)
+groups_turn : (fuel : ℕ) (bytes : List ℕ) (t : Trainer) → (length bytes ≡ 0 → ⊥)
+    → groups_on (suc fuel) bytes (Ok t) ≡ groups_on fuel (drop (group_size bytes) bytes) (group_on bytes t)
 unfolding groups_on
-groups_turn fuel bytes a n z =
-    rw (ne_eqb (length bytes) 0 n)
-    (ap (groups_on fuel (drop (group_size bytes) bytes)) (on_taken a.trainer (group_on bytes) (ap (λ (k : ℕ). refuse k a.trainer) z)))
+groups_turn fuel bytes t n = rw (ne_eqb (length bytes) 0 n)
 
 -- what is left of the list, with enough fuel, answers what the whole list does
-pub record Going (held list : List ℕ) (a : Answered) (at : ℕ) : Type 0 where
+pub record Going (held list : List ℕ) (t : Trainer) (rest : List ℕ) : Type 0 where
   pub fuel : ℕ
-  pub enough : length list ≤ at + fuel
-  pub same : groups_on fuel (drop at list) a ≡ answers_in held list
-
-pub rest_inside : (list : List ℕ) (at m r : ℕ) → at ≤ length list → m ≡ length list - at → r ≤ length (take m (drop at list)) → at + r ≤ length list
-rest_inside list at m r l em h = omega (arith, length-take-le m (drop at list) (omega (arith, length-drop at list)))
+  pub enough : length rest ≤ fuel
+  pub same : groups_on fuel rest (Ok t) ≡ answers_in held list
 
 module _ (held list : List ℕ) where
-  pub groups_begin : {a : Answered} → a ≡ load_of held → Going held list a 0
+  pub groups_begin : (t : Trainer) {a : Result Trainer Refusal} → a ≡ load_of held → a ≡ Ok t → Going held list t list
   unfolding answers_in
-  groups_begin e = record { fuel = length list; enough = omega arith; same = ap (groups_on (length list) list) e }
+  groups_begin t e z =
+      record { fuel = length list; enough = omega arith; same = ap (groups_on (length list) list) (sym z ∙ e) }
 
-  module _ (a : Answered) (at : ℕ) (g : Going held list a at) where
-    pub groups_refused : (a.refused ≡ 0 → ⊥) → a ≡ answers_in held list
-    groups_refused n = sym (groups_stay g.fuel (drop at list) a n) ∙ g.same
+  pub load_refused : (r : Refusal) {a : Result Trainer Refusal} → a ≡ load_of held → a ≡ Err r → Err r ≡ answers_in held list
+  unfolding answers_in
+  load_refused r e z = sym (groups_stay (length list) list r) ∙ ap (groups_on (length list) list) (sym z ∙ e)
 
-    pub groups_done : length list ≤ at → a ≡ answers_in held list
-    groups_done l = sym (groups_end g.fuel (drop at list) a (omega (arith, length-drop at list))) ∙ g.same
+  module _ (t : Trainer) (rest : List ℕ) (g : Going held list t rest) where
+    pub groups_done : length rest ≡ 0 → Ok t ≡ answers_in held list
+    groups_done z = sym (groups_end g.fuel rest t z) ∙ g.same
 
-    module _ (m r : ℕ) (l : at < length list) (em : m ≡ length list - at)
-        (er : drop r (take m (drop at list)) ≡ drop (group_size (take m (drop at list))) (take m (drop at list))) where
-      rest-is : take m (drop at list) ≡ drop at list
-      rest-is = take_all m (drop at list) (omega (arith, length-drop at list))
-
-      er' : drop r (drop at list) ≡ drop (group_size (drop at list)) (drop at list)
-      er' = subst (λ (x : List ℕ). drop r x ≡ drop (group_size x) x) rest-is er
-
-      pub rest_some : 0 < r
-      rest_some =
-          omega
-          (arith, ap length er', length-drop r (drop at list), length-drop (group_size (drop at list)) (drop at list), length-drop at list)
-
-      pub groups_next : {b : Answered} → a.refused ≡ 0 → b ≡ group_on (take m (drop at list)) a.trainer → Going held list b (at + r)
-      groups_next {b} z eb = go g.fuel g.enough g.same
+    module _ (n : length rest ≡ 0 → ⊥) where
+      pub groups_refused : (r : Refusal) → group_on rest t ≡ Err r → Err r ≡ answers_in held list
+      groups_refused r e = go g.fuel g.enough g.same
         where
-          go : (fuel : ℕ) → length list ≤ at + fuel → groups_on fuel (drop at list) a ≡ answers_in held list → Going held list b (at + r)
-          go zero h q = absurd (omega arith)
+          go : (fuel : ℕ) → length rest ≤ fuel → groups_on fuel rest (Ok t) ≡ answers_in held list → Err r ≡ answers_in held list
+          go zero h q = absurd (n (omega arith))
           go (suc f) h q =
-              record {
-                fuel = f;
-                enough = omega (arith, rest_some);
-                same =
-                    ap (λ (x : List ℕ). groups_on f x b) (sym (drop-drop r at list) ∙ er')
-                    ∙ ap (groups_on f (drop (group_size (drop at list)) (drop at list))) (eb ∙ ap (λ (x : List ℕ). group_on x a.trainer) rest-is)
-                    ∙ sym (groups_turn f (drop at list) a (λ y. absurd (omega (arith, length-drop at list))) z)
-                    ∙ q;
-              }
+              sym (groups_stay f (drop (group_size rest) rest) r) ∙ ap (groups_on f (drop (group_size rest) rest)) (sym e) ∙ sym (groups_turn f rest t n) ∙ q
+
+      module _ (u : Trainer) (e : group_on rest t ≡ Ok u) where
+        pub group_ready : Ready t → Ready u
+        group_ready y =
+            let h = IfOk-at_ok Held e (group_held t rest (held_from t y)) in record { accepted = h.accepted; whole = h.whole }
+
+        pub groups_next : {left : List ℕ} → left ≡ drop (group_size rest) rest → Going held list u left
+        groups_next {left} d = go g.fuel g.enough g.same
+          where
+            go : (fuel : ℕ) → length rest ≤ fuel → groups_on fuel rest (Ok t) ≡ answers_in held list → Going held list u left
+            go zero h q = absurd (n (omega arith))
+            go (suc f) h q =
+                record {
+                  fuel = f;
+                  enough = omega (arith, ap length d, length-drop (group_size rest) rest);
+                  same =
+                      ap (λ (x : List ℕ). groups_on f x (Ok u)) d ∙ ap (groups_on f (drop (group_size rest) rest)) (sym e)
+                      ∙ sym (groups_turn f rest t n) ∙ q;
+                }
+
+      -- the rest is shorter
+      pub shorter : {left : List ℕ} → left ≡ drop (group_size rest) rest → length left + 1 ≤ length rest
+      shorter d = let z : 1 ≤ length rest = omega (arith, n) in omega (arith, ap length d, length-drop (group_size rest) rest)

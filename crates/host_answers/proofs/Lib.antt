@@ -3,5 +3,4 @@ pub mod Small
 pub mod Scores
 pub mod Tunes
 pub mod Begins
-pub mod GroupWays
 pub mod Groups

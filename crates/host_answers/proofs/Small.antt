@@ -20,7 +20,7 @@ use Rattle.trainer.specs.Phases.{marked, try_from, keeps, after_last, tried, pha
 use Rattle.trainer.specs.Calls.{score_step}
 use Rattle.trainer.specs.Fields.{keeps_in, marked_in}
 use Rattle.host_answers.specs.declared.inner.steps.Tuned.{Tuned}
-use Rattle.host_answers.specs.Parts.{begin_of, next_of, finished_of, kept_at, noted_of, last_of, tried_of, step_of, tuned_of, tree_with, trainer_of}
+use Rattle.host_answers.specs.Parts.{begin_of, next_of, finished_of, last_of, tried_of, step_of, tree_with, trainer_of}
 
 -- ---- another action at the same leaf
 module _ (t : RuleTree) (i : ℕ) where
@@ -86,14 +86,12 @@ module _ (t : Trainer) where
         go false = last_same kept score
 
     five_same : (x : Float) → phase5 (trying_of u) x ≡ trainer_of t (step_of t.settings u x)
-    unfolding phase5 step_of noted_of keeps_in
+    unfolding phase5 step_of keeps_in
     five_same x = go (keeps (trying_of u) x)
       where
         go : (b : Bool)
             → cond b (tried (trying_of u) u.k x) (tried (trying_of u) u.kept u.score)
-            ≡ trainer_of t
-            (tried_of t.settings u (cond b (kept_at u.k x) (kept_at u.kept u.score)).kept
-            (cond b (kept_at u.k x) (kept_at u.kept u.score)).score)
+            ≡ trainer_of t (cond b (tried_of t.settings u u.k x) (tried_of t.settings u u.kept u.score))
         go true = tried_same u.k x
         go false = tried_same u.kept u.score
 
@@ -103,20 +101,10 @@ module _ (t : Trainer) where
     step_same x = five_same x
 
 -- ---- what the code makes of it
-small_of : Trainer → Action → ℕ → Tuned
-small_of t a n = record { action = a; best = t.best; k = t.k; kept = t.kept; score = t.kept_score; count = n }
-
-pub tuned_is : (t : Trainer) {a : Action} {n : ℕ} → a ≡ leaf_action t → n ≡ length (candidates_of t.settings a)
-    → ◌≡◌ {A = Tuned} (record { action = a; best = t.best; k = t.k; kept = t.kept; score = t.kept_score; count = n }) (tuned_of t)
-unfolding small_of
-tuned_is t {a} ea en =
-    ap (small_of t a) en ∙ ap (λ (x : Action). small_of t x (length (candidates_of t.settings x))) ea
-
-module _ (t : Trainer) (u : Tuned) {tree : RuleTree} {r : Trainer} (e : tree ≡ tree_with t u.action) where
-  pub built_finished : {m : RuleTree} → u.count ≡ 0 → m ≡ with_mark tree t.leaf → r ≡ stand t.settings m 3 t.stage t.round → r ≡ trainer_of t u
+module _ (t : Trainer) (u : Tuned) {tree : RuleTree} (e : tree ≡ tree_with t u.action) where
+  pub built_finished : {m : RuleTree} {r : Trainer} → u.count ≡ 0 → m ≡ with_mark tree t.leaf → r ≡ stand t.settings m 3 t.stage t.round → r ≡ trainer_of t u
   built_finished z f q =
       q ∙ ap (λ (x : RuleTree). stand t.settings x 3 t.stage t.round) (f ∙ ap (λ (x : RuleTree). with_mark x t.leaf) e) ∙ finished_is t u z
 
-  pub built_trying : (u.count ≡ 0 → ⊥) → r ≡ trying t.settings tree t.stage t.round t.leaf u.best u.k u.kept u.score → r ≡ trainer_of t u
-  built_trying n q =
-      q ∙ ap (λ (x : RuleTree). trying t.settings x t.stage t.round t.leaf u.best u.k u.kept u.score) e ∙ trying_is t u n
+  pub built_trying : (u.count ≡ 0 → ⊥) → trying t.settings tree t.stage t.round t.leaf u.best u.k u.kept u.score ≡ trainer_of t u
+  built_trying n = ap (λ (x : RuleTree). trying t.settings x t.stage t.round t.leaf u.best u.k u.kept u.score) e ∙ trying_is t u n

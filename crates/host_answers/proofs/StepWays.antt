@@ -4,7 +4,7 @@ use mathlib.Core.Bool.{Bool, true, false, cond}
 use mathlib.Core.Logic.{inl, inr}
 use Prim.Native.Nat.{ℕ, ◌+◌, ◌<◌, ◌≤◌}
 use native.Mathlib.Omega.{arith}
-use borrow.Author.Tests.{lt-ltb, le-ltb, eq-eqb, ne_eqb}
+use borrow.Author.Tests.{eq-eqb, ne_eqb, lt-ltb, le-ltb}
 use lib.Dec.{eqb, ltb}
 use lib.ListN.{length, get_or}
 use lib.Ieee.{Float}
@@ -12,68 +12,57 @@ use Rattle.remy.specs.declared.action.Action.{Action}
 use Rattle.remy.specs.Action.{valid_of}
 use Rattle.trainer.specs.declared.settings.Settings.{Settings}
 use Rattle.trainer.specs.Candidates.{candidates_of, no_candidate}
-use Rattle.trainer.specs.State.{none}
+use Rattle.std.specs.Prelude.{Some, None}
+use Rattle.trainer.specs.State.{none, kept_of}
+use Rattle.trainer.proofs.Steps.{kept_none, kept_number}
 use Rattle.trainer.specs.Fields.{keeps_in}
 use Rattle.trainer.proofs.CandidateLaws.{candidate_valid, candidates_few}
 use Rattle.host_answers.specs.declared.inner.steps.Tuned.{Tuned}
-use Rattle.host_answers.specs.declared.inner.steps.Kept.{Kept}
-use Rattle.host_answers.specs.Parts.{begun_with, begin_of, next_of, finished_of, kept_at, noted_of, last_of, tried_of, step_of, Tuning, Among, Counted}
-
-pub begun_is : (s : Settings) (a : Action) (best : Float) {n : ℕ} {r : Tuned} → n ≡ length (candidates_of s a) → r ≡ begun_with a best n → r ≡ begin_of s a best
-begun_is s a best e q = q ∙ ap (begun_with a best) e
+use Rattle.host_answers.specs.Parts.{begin_of, next_of, finished_of, last_of, tried_of, step_of, Tuning, Among, Counted}
 
 module _ (s : Settings) (u : Tuned) where
   pub k_few : Tuning s u → u.k < 4096
   k_few h = omega (arith, h.k, h.count, candidates_few s u.action)
 
-  module _ (kept : ℕ) where
-    pub kept_listed : Tuning s u → Among u kept → (kept ≡ none → ⊥) → kept < length (candidates_of s u.action)
-    kept_listed h (inl e) n = absurd (n e)
-    kept_listed h (inr l) n = subst (λ (m : ℕ). kept < m) h.count l
+  pub k_among : Tuning s u → Among u u.k
+  k_among h k e = let n = kept_number u.k k e in subst (λ (j : ℕ). j < u.count) (sym n.1) h.k
 
-    pub kept_valid : {c : Action} → Tuning s u → Among u kept → (kept ≡ none → ⊥) → c ≡ get_or (candidates_of s u.action) kept no_candidate → valid_of c ≡ true
-    kept_valid h m n e = ap valid_of e ∙ candidate_valid s u.action kept no_candidate h.settings (kept_listed h m n)
+  module _ (kept : ℕ) where
+    pub kept_listed : {k : ℕ} → Tuning s u → Among u kept → kept_of kept ≡ Some k → k < length (candidates_of s u.action)
+    kept_listed {k} h m e = subst (λ (n : ℕ). k < n) h.count (m k e)
+
+    pub kept_valid : {k : ℕ} {c : Action} → Tuning s u → Among u kept → kept_of kept ≡ Some k → c ≡ get_or (candidates_of s u.action) k no_candidate → valid_of c ≡ true
+    kept_valid {k} h m e ec = ap valid_of ec ∙ candidate_valid s u.action k no_candidate h.settings (kept_listed h m e)
 
     module _ (score : Float) where
-      pub last_none : kept ≡ none → finished_of u kept score ≡ last_of s u kept score
+      pub last_none : kept_of kept ≡ None → finished_of u kept score ≡ last_of s u kept score
       unfolding last_of
-      last_none e = rw (eq-eqb kept none e)
+      last_none e = rw (eq-eqb kept none (kept_none kept e))
 
-      pub last_kept : {c : Action} {n : ℕ} {r : Tuned} → (kept ≡ none → ⊥) → c ≡ get_or (candidates_of s u.action) kept no_candidate
-          → n ≡ length (candidates_of s c) → r ≡ begun_with c score n → r ≡ last_of s u kept score
+      pub last_kept : {k : ℕ} {c : Action} → kept_of kept ≡ Some k → c ≡ get_or (candidates_of s u.action) k no_candidate
+          → begin_of s c score ≡ last_of s u kept score
       unfolding last_of
-      last_kept {c} z e en q = rw (ne_eqb kept none z) (begun_is s c score en q ∙ ap (λ (x : Action). begin_of s x score) e)
+      last_kept {k} {c} e ec =
+          let n = kept_number kept k e in
+          rw (ne_eqb kept none n.0) (ap (λ (x : Action). begin_of s x score) (ec ∙ ap (λ (j : ℕ). get_or (candidates_of s u.action) j no_candidate) n.1))
 
-      pub tried_more : u.k + 1 < u.count → next_of u (u.k + 1) kept score ≡ tried_of s u kept score
-      unfolding tried_of
-      tried_more l = rw (lt-ltb (u.k + 1) u.count l)
+module _ (s : Settings) (u : Tuned) (kept : ℕ) (score : Float) where
+  pub tried_more : u.k + 1 < u.count → next_of u (u.k + 1) kept score ≡ tried_of s u kept score
+  unfolding tried_of
+  tried_more l = rw (lt-ltb (u.k + 1) u.count l)
 
-      pub tried_last : {r : Tuned} → u.count ≤ u.k + 1 → r ≡ last_of s u kept score → r ≡ tried_of s u kept score
-      unfolding tried_of
-      tried_last l q = rw (le-ltb (u.k + 1) u.count l) q
+  pub tried_last : {r : Tuned} → u.count ≤ u.k + 1 → r ≡ last_of s u kept score → r ≡ tried_of s u kept score
+  unfolding tried_of
+  tried_last l q = rw (le-ltb (u.k + 1) u.count l) q
 
-  module _ (x : Float) {v : Kept} (e : v ≡ noted_of u x) where
-    -- what is kept is a number of the list, or none
-    pub noted_among : Tuning s u → Among u u.kept → Among u v.kept
-    unfolding noted_of
-    noted_among h m = subst (λ (y : Kept). Among u y.kept) (sym e) (go (keeps_in u.best u.kept u.score x))
-      where
-        go : (b : Bool) → Among u (cond b (kept_at u.k x) (kept_at u.kept u.score)).kept
-        go true = inr h.k
-        go false = m
+module _ (s : Settings) (u : Tuned) (x : Float) {r : Tuned} where
+  pub step_kept : keeps_in u.best u.kept u.score x ≡ true → r ≡ tried_of s u u.k x → r ≡ step_of s u x
+  unfolding step_of
+  step_kept h q = rw h q
 
-    pub step_is : {r : Tuned} → r ≡ tried_of s u v.kept v.score → r ≡ step_of s u x
-    unfolding step_of
-    step_is q = q ∙ ap (λ (y : Kept). tried_of s u y.kept y.score) e
-
-module _ (u : Tuned) (x : Float) {b : Bool} (e : b ≡ keeps_in u.best u.kept u.score x) where
-  pub note_kept : b ≡ true → kept_at u.k x ≡ noted_of u x
-  unfolding noted_of
-  note_kept h = rw (sym e ∙ h)
-
-  pub note_passed : b ≡ false → kept_at u.kept u.score ≡ noted_of u x
-  unfolding noted_of
-  note_passed h = rw (sym e ∙ h)
+  pub step_passed : keeps_in u.best u.kept u.score x ≡ false → r ≡ tried_of s u u.kept u.score → r ≡ step_of s u x
+  unfolding step_of
+  step_passed h q = rw h q
 
 -- ---- the count stays that of the action, or is 0
 module _ (s : Settings) (u : Tuned) where
@@ -95,4 +84,8 @@ module _ (s : Settings) (u : Tuned) where
 
   pub step_counted : (x : Float) → Counted s u → Counted s (step_of s u x)
   unfolding step_of
-  step_counted x h = tried_counted (noted_of u x).kept (noted_of u x).score h
+  step_counted x h = go (keeps_in u.best u.kept u.score x)
+    where
+      go : (b : Bool) → Counted s (cond b (tried_of s u u.k x) (tried_of s u u.kept u.score))
+      go true = tried_counted u.k x h
+      go false = tried_counted u.kept u.score h

@@ -1,5 +1,7 @@
 -- What the private functions of the code are held to: the steps of a leaf's tuning on a small state, with the tree untouched.
-use Rattle.std.specs.Prelude.{◌≡◌, true, cond, ◌⊎◌, ℕ, ◌+◌, ◌<◌, length, get_or, eqb, ltb, Float}
+use Rattle.std.specs.Prelude.{◌≡◌, true, cond, ◌⊎◌, List, ℕ, ◌+◌, ◌/◌, ◌<◌, length, get_or, eqb, ltb, Float, Option, Some, Result, Ok, Err}
+use Rattle.refusal.specs.declared.Refusal.{Refusal}
+use Rattle.refusal.specs.declared.Refusal.TheVariants.{BadLength}
 use Rattle.remy.specs.declared.action.Action.{Action}
 use Rattle.remy.specs.Action.{valid_of}
 use Rattle.remy.specs.Cube as cube
@@ -9,10 +11,14 @@ use Rattle.trainer.specs.declared.settings.Settings.{Settings}
 use Rattle.trainer.specs.declared.Trainer.{Trainer}
 use Rattle.trainer.specs.Settings.{settings_hold}
 use Rattle.trainer.specs.Candidates.{candidates_of, no_candidate}
-use Rattle.trainer.specs.State.{none, trying, leaf_action, accepted_of}
+use Rattle.trainer.specs.State.{none, kept_of, trying, leaf_action, accepted_of}
 use Rattle.trainer.specs.Fields.{keeps_in, marked_in}
+use Rattle.trainer.specs.Calls.{answer_counts_of}
+use Rattle.host_trainer.specs.Records.{counts_in}
+use Rattle.host_answers.specs.Answers.{scores_on}
+use Rattle.host_answers.specs.declared.inner.groups.Kind.{Kind}
+use Rattle.host_answers.specs.declared.inner.groups.Kind.TheVariants.{Counts, Scores}
 use Rattle.host_answers.specs.declared.inner.steps.Tuned.{Tuned}
-use Rattle.host_answers.specs.declared.inner.steps.Kept.{Kept}
 
 -- an action whose candidates are tried from the first on
 abbrev pub begun_with : Action → Float → ℕ → Tuned
@@ -41,17 +47,10 @@ unfoldable pub tried_of : Settings → Tuned → ℕ → Float → Tuned
 unfolding last_of
 tried_of s u kept score = cond (ltb (u.k + 1) u.count) (next_of u (u.k + 1) kept score) (last_of s u kept score)
 
-abbrev pub kept_at : ℕ → Float → Kept
-kept_at k x = record { kept = k; score = x }
-
--- what is kept after the score of candidate k
-unfoldable pub noted_of : Tuned → Float → Kept
-noted_of u x = cond (keeps_in u.best u.kept u.score x) (kept_at u.k x) (kept_at u.kept u.score)
-
 -- the score of candidate k
 unfoldable pub step_of : Settings → Tuned → Float → Tuned
-unfolding noted_of tried_of
-step_of s u x = tried_of s u (noted_of u x).kept (noted_of u x).score
+unfolding tried_of
+step_of s u x = cond (keeps_in u.best u.kept u.score x) (tried_of s u u.k x) (tried_of s u u.kept u.score)
 
 -- what a step needs
 pub record Tuning (s : Settings) (u : Tuned) : Type 0 where
@@ -62,7 +61,7 @@ pub record Tuning (s : Settings) (u : Tuned) : Type 0 where
 
 -- a number of the list, or none
 abbrev pub Among : Tuned → ℕ → Type 0
-Among u kept = (kept ≡ none) ⊎ (kept < u.count)
+Among u kept = (k : ℕ) → kept_of kept ≡ Some k → k < u.count
 
 -- finished, or the number of candidates is known
 abbrev pub Counted : Settings → Tuned → Type 0
@@ -95,8 +94,11 @@ pub record Ready (t : Trainer) : Type 0 where
   pub accepted : accepted_of t ≡ true
   pub whole : length t.tree.nodes ≡ 513
 
--- a trainer that stands at a leaf
-pub record AtLeaf (t : Trainer) : Type 0 where
-  pub settings : settings_hold t.settings ≡ true
-  pub slot : t.leaf < 513
-  pub valid : valid_of (leaf_action t) ≡ true
+-- the kind that a byte names
+unfoldable pub kind_of : ℕ → Result Kind Refusal
+kind_of byte = cond (eqb byte 1) (Ok Counts) (cond (eqb byte 2) (Ok Scores) (Err BadLength))
+
+-- what the answers of a group make of a trainer, by the group's kind and bytes
+unfoldable pub answers_on : Kind → List ℕ → Trainer → Result Trainer Refusal
+answers_on Counts body t = answer_counts_of t (counts_in body)
+answers_on Scores body t = scores_on t body (length body / 8)

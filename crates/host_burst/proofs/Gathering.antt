@@ -1,32 +1,25 @@
--- The loop that gathers a burst's acks: the first i stand in the array. Assumes nothing.
-use mathlib.Core.Path.{◌≡◌, refl, sym, ap, ◌∙◌}
+-- The loop that gathers a burst's acks: none yet, one more, and all. Assumes nothing.
+use mathlib.Core.Path.{◌≡◌, refl, ap, ◌∙◌}
 use mathlib.Core.List.{List, [], ◌∷◌, ◌++◌}
-use Prim.Native.Nat.{ℕ, suc, ◌+◌, ◌*◌, ◌<◌, ◌≤◌}
+use Prim.Native.Nat.{ℕ, ◌+◌, ◌*◌}
 use native.Mathlib.Numerals.{add-one}
-use native.Mathlib.Omega.{arith}
-use lib.ListN.{length, set, take}
-use lib.Seq.{take-suc-set}
 use Rattle.rule_tree.specs.Lists.{tabulate}
 use Rattle.sender.specs.declared.Ack.{Ack}
-use Rattle.host_burst.specs.Bursts.{ack_at}
+use Rattle.host_sender.specs.Events.{ack_at}
+use Rattle.host_burst.specs.Bursts.{ack_count, acks_of}
 
-module _ (list : List ℕ) where
-  abbrev pub nth : ℕ → Ack
-  nth i = ack_at list (21 * i)
+-- the first n acks of the list
+unfoldable pub first_acks : List ℕ → ℕ → List Ack
+first_acks list n = tabulate n (λ i. ack_at list (21 * i))
 
-  pub none : [] ≡ tabulate 0 nth
-  unfolding tabulate
-  none = refl
+pub none : (list : List ℕ) → [] ≡ first_acks list 0
+unfolding first_acks tabulate
+none list = refl
 
-  one_more : (i : ℕ) → tabulate (suc i) nth ≡ tabulate i nth ++ (nth i ∷ [])
-  unfolding tabulate
-  one_more i = refl
+pub one_more : (list : List ℕ) (acks : List Ack) (i : ℕ) (x : Ack) → acks ≡ first_acks list i → x ≡ ack_at list (21 * i) → acks ++ (x ∷ []) ≡ first_acks list (i + 1)
+unfolding first_acks tabulate
+one_more list acks i x e f = rw (add-one i) (λ j. e j ++ (f j ∷ []))
 
-  pub turn : (acks : List Ack) (i : ℕ) {x : Ack} → i < length acks → take i acks ≡ tabulate i nth → x ≡ nth i
-      → take (i + 1) (set acks i x) ≡ tabulate (i + 1) nth
-  turn acks i {x} l p e =
-      ap (λ (k : ℕ). take k (set acks i x)) (add-one i) ∙ take-suc-set acks i x l ∙ ap (λ (r : List Ack). r ++ (x ∷ [])) p
-      ∙ ap (λ (a : Ack). tabulate i nth ++ (a ∷ [])) e ∙ sym (one_more i) ∙ ap (λ (k : ℕ). tabulate k nth) (sym (add-one i))
-
-  pub all : (acks : List Ack) (i n : ℕ) → i ≤ n → n ≤ i → take i acks ≡ tabulate i nth → take n acks ≡ tabulate n nth
-  all acks i n a b p = let q : n ≡ i = omega arith in ap (λ (k : ℕ). take k acks) q ∙ p ∙ ap (λ (k : ℕ). tabulate k nth) (sym q)
+pub all : (list : List ℕ) (n : ℕ) {acks : List Ack} → n ≡ ack_count list → acks ≡ first_acks list n → acks ≡ acks_of list
+unfolding first_acks
+all list n e p = p ∙ ap (λ (k : ℕ). tabulate k (λ i. ack_at list (21 * i))) e

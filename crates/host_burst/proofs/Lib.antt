@@ -2,5 +2,4 @@ pub mod Gathering
 pub mod Writing
 pub mod Lengths
 pub mod Giving
-pub mod BurstWays
 pub mod BurstLaws

@@ -1,28 +1,28 @@
 -- The ways through a step and a step back of a generator in bytes. Assumes nothing.
-use mathlib.Core.Path.{◌≡◌, sym, ap, ◌∙◌}
-use mathlib.Core.Bool.{true, false}
+use mathlib.Core.Path.{◌≡◌, refl, sym, ap, ◌∙◌}
+use mathlib.Core.Bool.{Bool, true, false, not, cond}
 use mathlib.Core.List.{List, ◌++◌, append_assoc, append-nil}
-use Prim.Native.Nat.{ℕ, ◌<◌, ◌≤◌}
+use mathlib.Core.Logic.{◌⊎◌, inl, inr, ⊎_elim}
+use Prim.Native.Nat.{ℕ, ◌≤◌}
 use native.Mathlib.Omega.{arith}
-use borrow.Author.Tests.{eq-eqb, ne_eqb, le-leb, lt-leb}
+use borrow.Author.Tests.{eq-eqb, eqb-true, le-leb}
+use lib.Dec.{eqb}
 use lib.ListN.{length, length-append, drop_of_length-le}
 use lib.Seq.{sets}
-use Rattle.record.specs.declared.Saved.{Saved}
-use Rattle.record.specs.declared.Saved.TheVariants.{Size, Refused}
+use Rattle.std.specs.Prelude.{Result, Ok, Err}
+use Rattle.refusal.specs.declared.Refusal.{Refusal}
+use Rattle.refusal.specs.declared.Refusal.TheVariants.{BadLength, ZeroState}
+use Rattle.refusal.specs.Guards.{checked}
 use Rattle.record.proofs.CallWays.{stored}
-use Rattle.wire.specs.Bytes.{bytes_of, number_at}
+use Rattle.wire.specs.Bytes.{bytes_of}
 use Rattle.wire.proofs.Bytes.{bytes_count}
 use Rattle.wire.proofs.Stores.{wrote}
 use Rattle.xoshiro.specs.declared.State.{State}
 use Rattle.xoshiro.specs.declared.Stepped.{Stepped}
 use Rattle.xoshiro.specs.Xoshiro.{zeros_of, stepped_of, back_of}
-use Rattle.host_draws.specs.Steps.{state_at, state_bytes, step_in, step_left, output_left, back_in, back_left}
+use Rattle.host_draws.specs.Steps.{state_at, state_bytes, words_order, step_in, step_left, output_left, back_in, back_left}
 
 -- ---- the four words
-pub words_read : (bytes : List ℕ) {a b c d : ℕ} → a ≡ number_at bytes 0 8 → b ≡ number_at bytes 8 8 → c ≡ number_at bytes 16 8 → d ≡ number_at bytes 24 8
-    → record { s0 = a; s1 = b; s2 = c; s3 = d } ≡ state_at bytes
-words_read bytes p q r s j = record { s0 = p j; s1 = q j; s2 = r j; s3 = s j }
-
 pub state_count : (s : State) → length (state_bytes s) ≡ 32
 state_count s =
     let a = bytes_count 8 s.s0 in
@@ -63,66 +63,59 @@ module _ (l : List ℕ) (s : State) where
       (wrote l c 0 24 ((w0 ++ w1) ++ w2) w3 t three (simp length-append (omega arith))
       ∙ ap (sets l 0) (append_assoc (w0 ++ w1) w2 w3 ∙ append_assoc w0 w1 (w2 ++ w3)))
 
--- ---- a step
-module _ (generator out : List ℕ) where
-  abbrev Stepping : Saved → List ℕ → List ℕ → Type 0
-  Stepping r g o = (r ≡ step_in generator out) × ((g ≡ step_left generator out) × (o ≡ output_left generator out))
+-- ---- the state that the bytes are
+module _ (generator : List ℕ) {a : Result State Refusal} (e : a ≡ checked (words_order generator) (Ok (state_at generator))) where
+  pub state_held : {s : State} → a ≡ Ok s → (length generator ≡ 32) × (zeros_of (state_at generator) ≡ false) × (s ≡ state_at generator)
+  state_held {s} z = go (eqb (length generator) 32) (zeros_of (state_at generator)) refl refl (sym e ∙ z)
+    where
+      go : (b c : Bool) → eqb (length generator) 32 ≡ b → zeros_of (state_at generator) ≡ c
+          → cond b (cond (not c) (Ok (state_at generator)) (Err ZeroState)) (Err BadLength) ≡ Ok s
+          → (length generator ≡ 32) × (zeros_of (state_at generator) ≡ false) × (s ≡ state_at generator)
+      go true false p q r = (eqb-true (length generator) 32 p, q, cc)
+      go true true p q r = absurd (cc)
+      go false c p q r = absurd (cc)
 
-  pub step_length : (length generator ≡ 32 → ⊥) → Stepping (Refused 6) generator out
-  unfolding step_in step_left output_left
-  step_length n = let a = ne_eqb (length generator) 32 n in (rw a, (rw a, rw a))
+  -- either the length is another, or the state is four zeros
+  pub state_refused : {r : Refusal} → a ≡ Err r → ((eqb (length generator) 32 ≡ false) × (r ≡ BadLength))
+      ⊎ ((eqb (length generator) 32 ≡ true) × (zeros_of (state_at generator) ≡ true) × (r ≡ ZeroState))
+  state_refused {r} z = go (eqb (length generator) 32) (zeros_of (state_at generator)) refl refl (sym e ∙ z)
+    where
+      go : (b c : Bool) → eqb (length generator) 32 ≡ b → zeros_of (state_at generator) ≡ c
+          → cond b (cond (not c) (Ok (state_at generator)) (Err ZeroState)) (Err BadLength) ≡ Err r
+          → ((eqb (length generator) 32 ≡ false) × (r ≡ BadLength)) ⊎ ((eqb (length generator) 32 ≡ true) × (zeros_of (state_at generator) ≡ true) × (r ≡ ZeroState))
+      go true false p q h = absurd (cc)
+      go true true p q h = inr (p, q, cc)
+      go false c p q h = inl (p, cc)
 
-  module _ (e : length generator ≡ 32) {s : State} (at : s ≡ state_at generator) where
-    pub step_zeros : zeros_of s ≡ true → Stepping (Refused 26) generator out
+  -- ---- a step
+  module _ (out : List ℕ) where
+    pub step_refused : {r : Refusal} {x : Result ℕ Refusal} → a ≡ Err r → x ≡ Err r
+        → (x ≡ step_in generator out) × ((generator ≡ step_left generator out) × (out ≡ output_left generator out))
     unfolding step_in step_left output_left
-    step_zeros z =
-        let a = eq-eqb (length generator) 32 e in
-        let b : zeros_of (state_at generator) ≡ true = ap zeros_of (sym at) ∙ z in
-        (rw (a, b), (rw (a, b), rw (a, b)))
+    step_refused z y =
+        ⊎_elim (λ h. rw h.0 (y ∙ ap (λ (k : Refusal). Err k) h.1, (refl, refl))) (λ h. rw (h.0, h.1) (y ∙ ap (λ (k : Refusal). Err k) h.2, (refl, refl)))
+        (state_refused z)
 
-    pub step_short : zeros_of s ≡ false → length out < 8 → Stepping (Refused 9) generator out
-    unfolding step_in step_left output_left
-    step_short z h =
-        let a = eq-eqb (length generator) 32 e in
-        let b : zeros_of (state_at generator) ≡ false = ap zeros_of (sym at) ∙ z in
-        let c = lt-leb 8 (length out) h in
-        (rw (a, b, c), (rw (a, b, c), rw (a, b, c)))
+    module _ {s : State} (is : a ≡ Ok s) where
+      pub step_taken : {n : Stepped} {g o : List ℕ} → 8 ≤ length out → n ≡ stepped_of s → g ≡ state_bytes n.state → o ≡ sets out 0 (bytes_of 8 n.output)
+          → (Ok 8 ≡ step_in generator out) × ((g ≡ step_left generator out) × (o ≡ output_left generator out))
+      unfolding step_in step_left output_left
+      step_taken h k p q =
+          let f = state_held is in
+          let m : _ ≡ stepped_of (state_at generator) = k ∙ ap stepped_of f.2 in
+          rw (eq-eqb (length generator) 32 f.0, f.1, le-leb 8 (length out) h) (
+            refl,
+            (p ∙ ap (λ (x : Stepped). state_bytes x.state) m, q ∙ ap (λ (x : Stepped). sets out 0 (bytes_of 8 x.output)) m),
+          )
 
-    pub step_taken : {n : Stepped} {g o : List ℕ} → zeros_of s ≡ false → 8 ≤ length out → n ≡ stepped_of s → g ≡ state_bytes n.state → o ≡ sets out 0 (bytes_of 8 n.output)
-        → Stepping (Size 8) g o
-    unfolding step_in step_left output_left
-    step_taken z h f p q =
-        let a = eq-eqb (length generator) 32 e in
-        let b : zeros_of (state_at generator) ≡ false = ap zeros_of (sym at) ∙ z in
-        let c = le-leb 8 (length out) h in
-        let m : _ ≡ stepped_of (state_at generator) = f ∙ ap stepped_of at in (
-          rw (a, b, c),
-          (
-            rw (a, b, c) (p ∙ ap (λ (x : Stepped). state_bytes x.state) m),
-            rw (a, b, c) (q ∙ ap (λ (x : Stepped). sets out 0 (bytes_of 8 x.output)) m),
-          ),
-        )
-
--- ---- a step back
-module _ (generator : List ℕ) where
-  abbrev Backing : Saved → List ℕ → Type 0
-  Backing r g = (r ≡ back_in generator) × (g ≡ back_left generator)
-
-  pub back_length : (length generator ≡ 32 → ⊥) → Backing (Refused 6) generator
+  -- ---- a step back
+  pub back_refused : {r : Refusal} {x : Result ℕ Refusal} → a ≡ Err r → x ≡ Err r → (x ≡ back_in generator) × (generator ≡ back_left generator)
   unfolding back_in back_left
-  back_length n = let a = ne_eqb (length generator) 32 n in (rw a, rw a)
+  back_refused z y =
+      ⊎_elim (λ h. rw h.0 (y ∙ ap (λ (k : Refusal). Err k) h.1, refl)) (λ h. rw (h.0, h.1) (y ∙ ap (λ (k : Refusal). Err k) h.2, refl)) (state_refused z)
 
-  module _ (e : length generator ≡ 32) {s : State} (at : s ≡ state_at generator) where
-    pub back_zeros : zeros_of s ≡ true → Backing (Refused 26) generator
-    unfolding back_in back_left
-    back_zeros z =
-        let a = eq-eqb (length generator) 32 e in
-        let b : zeros_of (state_at generator) ≡ true = ap zeros_of (sym at) ∙ z in
-        (rw (a, b), rw (a, b))
-
-    pub back_taken : {t : State} {g : List ℕ} → zeros_of s ≡ false → t ≡ back_of s → g ≡ state_bytes t → Backing (Size 32) g
-    unfolding back_in back_left
-    back_taken z f p =
-        let a = eq-eqb (length generator) 32 e in
-        let b : zeros_of (state_at generator) ≡ false = ap zeros_of (sym at) ∙ z in
-        (rw (a, b), rw (a, b) (p ∙ ap state_bytes (f ∙ ap back_of at)))
+  pub back_taken : {s t : State} {g : List ℕ} → a ≡ Ok s → t ≡ back_of s → g ≡ state_bytes t → (Ok 32 ≡ back_in generator) × (g ≡ back_left generator)
+  unfolding back_in back_left
+  back_taken is k p =
+      let f = state_held is in
+      rw (eq-eqb (length generator) 32 f.0, f.1) (refl, p ∙ ap state_bytes (k ∙ ap back_of f.2))

@@ -2,51 +2,36 @@
 use mathlib.Core.Path.{◌≡◌, refl, sym, ap, ◌∙◌}
 use mathlib.Core.Bool.{false}
 use mathlib.Core.List.{List, [], ◌∷◌, ◌++◌, append_assoc, append-nil}
-use Prim.Native.Nat.{ℕ, zero, suc, ◌+◌, ◌*◌, ◌≤◌}
+use Prim.Native.Nat.{ℕ, zero, suc, ◌+◌, ◌*◌}
 use native.Mathlib.Numerals.{add-one}
 use native.Mathlib.Omega.{arith}
 use lib.ListN.{length, take, drop, length-append}
 use lib.Seq.{sets}
+use Rattle.std.specs.Prelude.{Result}
+use Rattle.refusal.specs.declared.Refusal.{Refusal}
 use Rattle.rule_tree.specs.declared.RuleTree.{RuleTree}
 use Rattle.wire.proofs.Stores.{wrote}
 use Rattle.sender.specs.declared.Event.{Event}
 use Rattle.sender.specs.declared.Event.TheVariants.{Ack, Send, Tick}
 use Rattle.sender.specs.declared.Sender.{Sender}
-use Rattle.sender.specs.declared.Reply.{Reply}
-use Rattle.sender.specs.SenderCall.{on}
+use Rattle.sender.specs.declared.Held.{Held}
 use Rattle.sender.specs.Sender.{replied_to, left_by}
 use Rattle.xoshiro.specs.declared.State.{State}
 use Rattle.xoshiro.specs.Xoshiro.{zeros_of}
 use Rattle.own_draws.specs.declared.Drawing.{Drawing}
-use Rattle.own_draws.specs.OwnRuns.{OwnCall, own_reply_to, own_replies, own_end, generator_end, handing, steps_to}
+use Rattle.own_draws.specs.OwnRuns.{OwnCall, ack, own_reply_to, own_replies, own_end, generator_end, handing, steps_to}
 use Rattle.own_draws.proofs.Same.{same_call, end_zeros}
 use Rattle.host_sender.specs.Events.{event_at, reply_bytes}
 use Rattle.host_sender.proofs.Running.{event_part, reply_count}
 use Rattle.host_draws.specs.OwnEvents.{call_of, calls_in, replies_of}
-use Rattle.host_draws.specs.Parts.{handed_event, stepped_by}
+use Rattle.host_draws.specs.Parts.{drawn_event}
 
--- ---- an event that is handed the generator's draw
-handed_on : (t : RuleTree) (s : Sender) (g : State) (e : Event) → on t (handed_event s g e) ≡ handing s g (call_of t e)
-unfolding on handed_event handing call_of
-handed_on t s g (Ack sent received draw) = refl
-handed_on t s g (Send at) = refl
-handed_on t s g Tick = refl
-
-handed_steps : (t : RuleTree) (s : Sender) (g : State) (e : Event) (r : Reply) → stepped_by s g (handed_event s g e) r ≡ steps_to s g (call_of t e) r
-unfolding stepped_by handed_event steps_to call_of
-handed_steps t s g (Ack sent received draw) r = refl
-handed_steps t s g (Send at) r = refl
-handed_steps t s g Tick r = refl
-
-module _ (t : RuleTree) (s : Sender) (g : State) (z : zeros_of g ≡ false) (e : Event) where
-  reply_is : replied_to s (on t (handed_event s g e)) ≡ (own_reply_to s g (call_of t e)).reply
-  reply_is = ap (replied_to s) (handed_on t s g e) ∙ ap (λ (d : Drawing). d.reply) (sym (same_call s g (call_of t e) z))
-
-  generator_is : stepped_by s g (handed_event s g e) (replied_to s (on t (handed_event s g e))) ≡ (own_reply_to s g (call_of t e)).generator
-  generator_is =
-      handed_steps t s g e (replied_to s (on t (handed_event s g e)))
-      ∙ ap (λ (r : Reply). steps_to s g (call_of t e) r) (ap (replied_to s) (handed_on t s g e))
-      ∙ ap (λ (d : Drawing). d.generator) (sym (same_call s g (call_of t e) z))
+-- ---- an event with a draw of a generator that is not four zeros
+drawn_is : (t : RuleTree) (s : Sender) (g : State) → zeros_of g ≡ false → (e : Event) → drawn_event t s g e ≡ own_reply_to s g (call_of t e)
+unfolding drawn_event call_of own_reply_to replied_to handing steps_to
+drawn_is t s g z (Ack x) = sym (same_call s g (ack t x.sent x.received) z)
+drawn_is t s g z (Send at) = refl
+drawn_is t s g z Tick = refl
 
 -- ---- one call more
 module _ (c : OwnCall) where
@@ -67,19 +52,19 @@ module _ (c : OwnCall) where
   unfolding own_replies own_end generator_end
   replies_more s g [] = refl
   replies_more s g (b ∷ cs) =
-      let d = own_reply_to s g b in ap (λ (rs : List Reply). d.reply ∷ rs) (replies_more (left_by s d.reply) d.generator cs)
+      let d = own_reply_to s g b in ap (λ (rs : List (Result Held Refusal)). d.reply ∷ rs) (replies_more (left_by s d.reply) d.generator cs)
 
 replies_length : (s : Sender) (g : State) (cs : List OwnCall) → length (own_replies s g cs) ≡ length cs
 unfolding own_replies
 replies_length s g [] = refl
 replies_length s g (c ∷ cs) = let d = own_reply_to s g c in ap suc (replies_length (left_by s d.reply) d.generator cs)
 
-bytes_more : (rs : List Reply) (r : Reply) → replies_of (rs ++ (r ∷ [])) ≡ replies_of rs ++ reply_bytes r
+bytes_more : (rs : List (Result Held Refusal)) (r : Result Held Refusal) → replies_of (rs ++ (r ∷ [])) ≡ replies_of rs ++ reply_bytes r
 unfolding replies_of
 bytes_more [] r = append-nil (reply_bytes r)
 bytes_more (x ∷ rs) r = ap (λ (z : List ℕ). reply_bytes x ++ z) (bytes_more rs r) ∙ sym (append_assoc (reply_bytes x) (replies_of rs) (reply_bytes r))
 
-bytes_length : (rs : List Reply) → length (replies_of rs) ≡ 6 * length rs
+bytes_length : (rs : List (Result Held Refusal)) → length (replies_of rs) ≡ 6 * length rs
 unfolding replies_of
 bytes_length [] = refl
 bytes_length (r ∷ rs) =
@@ -116,8 +101,8 @@ module _ (t : RuleTree) (s : Sender) (g : State) (list : List ℕ) where
       let c = calls_length t list n in
       omega arith
 
-  module _ (z : zeros_of g ≡ false) (i m : ℕ) (w : m ≡ 22) {u : Sender} {h : State} {x e : Event} {r : Reply} (p : u ≡ own_end s g (calls i)) (q : h ≡ generator_end s g (calls i))
-      (d : x ≡ event_at (take m (drop (22 * i) list)) 0) (f : e ≡ handed_event u h x) (a : r ≡ replied_to u (on t e))
+  module _ (z : zeros_of g ≡ false) (i m : ℕ) (w : m ≡ 22) {u : Sender} {h : State} {x : Event} {r : Drawing} (p : u ≡ own_end s g (calls i))
+      (q : h ≡ generator_end s g (calls i)) (d : x ≡ event_at (take m (drop (22 * i) list)) 0) (a : r ≡ drawn_event t u h x)
     where
       abbrev call : OwnCall
       call = call_of t (event_at list (22 * i))
@@ -131,41 +116,25 @@ module _ (t : RuleTree) (s : Sender) (g : State) (list : List ℕ) where
       zeros_not : zeros_of h ≡ false
       zeros_not = ap zeros_of q ∙ end_zeros s g (calls i) z
 
-      called : own_reply_to u h (call_of t x) ≡ at
-      called j = own_reply_to (p j) (q j) (call_of t (event_is j))
-
-      replied_is : r ≡ at.reply
-      replied_is =
-          a ∙ ap (λ (y : Event). replied_to u (on t y)) f ∙ reply_is t u h zeros_not x
-          ∙ ap (λ (y : Drawing). y.reply) called
+      reply_is : r ≡ at
+      reply_is = a ∙ drawn_is t u h zeros_not x ∙ (λ j. own_reply_to (p j) (q j) (call_of t (event_is j)))
 
       more : calls (i + 1) ≡ calls i ++ (call ∷ [])
       more = ap calls (add-one i) ∙ calls_suc i
 
-      pub sender_turn_lem : {v : Sender} → v ≡ left_by u r → v ≡ own_end s g (calls (i + 1))
-      sender_turn_lem b =
-          b ∙ (λ j. left_by (p j) (replied_is j)) ∙ sym (end_more call s g (calls i)) ∙ ap (own_end s g) (sym more)
+      pub sender_turn : {v : Sender} → v ≡ left_by u r.reply → v ≡ own_end s g (calls (i + 1))
+      sender_turn b =
+          b ∙ (λ j. left_by (p j) (reply_is j).reply) ∙ sym (end_more call s g (calls i)) ∙ ap (own_end s g) (sym more)
 
-      pub generator_turn : {v : State} → v ≡ stepped_by u h e r → v ≡ generator_end s g (calls (i + 1))
-      generator_turn b =
-          b ∙ ap (λ (y : Reply). stepped_by u h e y) a ∙ ap (λ (y : Event). stepped_by u h y (replied_to u (on t y))) f
-          ∙ generator_is t u h zeros_not x ∙ ap (λ (y : Drawing). y.generator) called
-          ∙ sym (generator_more call s g (calls i)) ∙ ap (generator_end s g) (sym more)
+      pub generator_turn : r.generator ≡ generator_end s g (calls (i + 1))
+      generator_turn =
+          ap (λ (y : Drawing). y.generator) reply_is ∙ sym (generator_more call s g (calls i)) ∙ ap (generator_end s g) (sym more)
 
-      pub replies_turn : (out : List ℕ) {o v : List ℕ} → o ≡ sets out 0 (replies_of (own_replies s g (calls i))) → v ≡ sets o (6 * i) (reply_bytes r)
+      pub replies_turn : (out : List ℕ) {o v : List ℕ} → o ≡ sets out 0 (replies_of (own_replies s g (calls i))) → v ≡ sets o (6 * i) (reply_bytes r.reply)
           → v ≡ sets out 0 (replies_of (own_replies s g (calls (i + 1))))
       replies_turn out {o} b c =
           let rs = own_replies s g (calls i) in
-          wrote out o 0 (6 * i) (replies_of rs) (reply_bytes r)
-          (c ∙ ap (λ (k : ℕ). sets o k (reply_bytes r)) (let y : 6 * i ≡ 0 + 6 * i = omega arith in y)) b (replies_count i)
-          ∙ ap (λ (y : Reply). sets out 0 (replies_of rs ++ reply_bytes y)) replied_is
+          wrote out o 0 (6 * i) (replies_of rs) (reply_bytes r.reply)
+          (c ∙ ap (λ (k : ℕ). sets o k (reply_bytes r.reply)) (let y : 6 * i ≡ 0 + 6 * i = omega arith in y)) b (replies_count i)
+          ∙ ap (λ (y : Drawing). sets out 0 (replies_of rs ++ reply_bytes y.reply)) reply_is
           ∙ ap (sets out 0) (sym (bytes_more rs at.reply) ∙ ap replies_of (sym (replies_more call s g (calls i)) ∙ ap (own_replies s g) (sym more)))
-
-  pub all_done : (i n : ℕ) (out : List ℕ) {u : Sender} {h : State} {o : List ℕ} → i ≤ n → n ≤ i → u ≡ own_end s g (calls i) → h ≡ generator_end s g (calls i)
-      → o ≡ sets out 0 (replies_of (own_replies s g (calls i)))
-      → (u ≡ own_end s g (calls n)) × ((h ≡ generator_end s g (calls n)) × (o ≡ sets out 0 (replies_of (own_replies s g (calls n)))))
-  all_done i n out a b p q r =
-      let e : i ≡ n = omega arith in (
-        p ∙ ap (λ (k : ℕ). own_end s g (calls k)) e,
-        (q ∙ ap (λ (k : ℕ). generator_end s g (calls k)) e, r ∙ ap (λ (k : ℕ). sets out 0 (replies_of (own_replies s g (calls k)))) e),
-      )

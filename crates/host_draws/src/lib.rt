@@ -1,47 +1,55 @@
 // A box's own generator for hosts, in 32 bytes: its step, its step back, and events whose acks draw from it.
 #![tactic(auto)]
 
-ghost use Rattle.std.specs.Prelude.{◌≡◌, true, false, ◌*◌, ◌≤◌, length};
+ghost use Rattle.std.specs.Prelude.{◌≡◌, false, ◌*◌, ◌≤◌, length};
+ghost use Rattle.refusal.specs.Guards.{checked};
 ghost use Rattle.std.proofs.lemmas.List.Edits.{sets};
-ghost use Rattle.rule_tree.specs.Grown.{grown_of};
 ghost use Rattle.xoshiro.specs.Xoshiro.{zeros_of};
 ghost use Rattle.own_draws.specs.OwnRuns.{own_replies, own_end, generator_end};
-ghost use Rattle.host_draws.specs.Steps.{state_at, state_bytes, step_in, step_left, output_left, back_in, back_left};
+ghost use Rattle.host_sender.specs.Events.{event_count};
+ghost use Rattle.host_draws.specs.Steps.{state_at, state_bytes, words_order, step_in, step_left, output_left, back_in, back_left};
 ghost use Rattle.host_draws.specs.OwnEvents.{calls_in, replies_of, whole_of, played_in, played_sender, played_generator, played_replies, own_in, own_sender, own_generator, own_out_of};
-ghost use Rattle.host_draws.specs.Parts.{handed_event, stepped_by};
+ghost use Rattle.host_draws.specs.Parts.{drawn_event};
 
 use host_sender::inner::read::read_sender;
-use host_sender::inner::run::{event_at, put_reply};
-use host_sender::inner::write::write_sender;
-use own_draws::inner::{draw_in, due_in, generator_after};
-use record::Saved;
-use remy::cube::Cube;
-use rule_tree::RuleTree;
-use rule_tree::inner::links;
-use sender::inner::acks::{answer, node_of};
-use sender::inner::events::{ask_for, draw_of, left_by};
-use sender::{Event, Reply, Sender};
+use host_sender::inner::run::{EVENT_SIZE, REPLY_SIZE, event_at, put_reply};
+use host_sender::inner::write::{SENDER_SIZE, write_sender};
+use own_draws::Drawing;
+use own_draws::inner::taken;
+use refusal::Refusal;
+use rule_tree::inner::grown::Grown;
+use rule_tree::inner::rules::Rules;
+use sender::inner::events::left_by;
+use sender::{Event, Sender};
 use wire::inner::read::number_at;
 use wire::inner::write::put;
 use xoshiro::State;
-use xoshiro::inner::{back, next, zeros};
+use xoshiro::inner::{back, next};
 
-// The sender and the generator that events leave.
+// The bytes of a generator's state: four words.
+const STATE_SIZE: usize = 32;
+
+// A sender and its generator, before events or after them.
 #[derive(Clone, Copy)]
 pub struct Left {
     pub sender: Sender,
     pub generator: State,
 }
 
-// The four words.
-fn state_at(bytes: &[u8]) -> State
-    ensures { result ≡ state_at bytes.now }
+// The state that the bytes are: not those of another length, nor four zeros.
+#[tactic(auto, using(std::proofs::lemmas::Bool::Decides::nat_tests))]
+fn state_in(bytes: &[u8]) -> Result<State, Refusal>
+    ensures { result ≡ checked (words_order bytes.now) (Ok (state_at bytes.now)) }
 {
-    let s0 = number_at(bytes, 0, 8);
-    let s1 = number_at(bytes, 8, 8);
-    let s2 = number_at(bytes, 16, 8);
-    let s3 = number_at(bytes, 24, 8);
-    State { s0, s1, s2, s3 }
+    if bytes.len() != STATE_SIZE {
+        return Err(Refusal::BadLength);
+    }
+    State::new(
+        number_at(bytes, 0, 8),
+        number_at(bytes, 8, 8),
+        number_at(bytes, 16, 8),
+        number_at(bytes, 24, 8),
+    )
 }
 
 fn put_state(bytes: &mut [u8], s: State)
@@ -55,163 +63,117 @@ fn put_state(bytes: &mut [u8], s: State)
 }
 
 // The generator's output, and its state after the step. A refused call writes nothing.
-pub fn step(generator: &mut [u8], out: &mut [u8]) -> Saved
+#[tactic(auto, unfolding(crate::specs::Steps::step_in, crate::specs::Steps::step_left, crate::specs::Steps::output_left))]
+pub fn step(generator: &mut [u8], out: &mut [u8]) -> Result<usize, Refusal>
     ensures { (result ≡ step_in generator.old out.old) × ((generator.new ≡ step_left generator.old out.old) × (out.new ≡ output_left generator.old out.old)) }
 {
-    if generator.len() == 32 {
-        let s = state_at(generator);
-        if zeros(s) {
-            return Saved::Refused(refusal::ZERO_STATE);
-        }
-        if 8 <= out.len() {
-            let stepped = next(s);
-            let after = stepped.state;
-            put_state(generator, after);
-            put(out, 0, 8, stepped.output);
-            return Saved::Size(8);
-        }
-        return Saved::Refused(refusal::SHORT_BUFFER);
+    let s = state_in(generator)?;
+    if out.len() < 8 {
+        return Err(Refusal::ShortBuffer);
     }
-    Saved::Refused(refusal::BAD_LENGTH)
+    let stepped = next(s);
+    put_state(generator, stepped.state);
+    put(out, 0, 8, stepped.output);
+    Ok(8)
 }
 
 // The state before the step. A refused call writes nothing.
-pub fn step_back(generator: &mut [u8]) -> Saved
+#[tactic(auto, unfolding(crate::specs::Steps::back_in, crate::specs::Steps::back_left))]
+pub fn step_back(generator: &mut [u8]) -> Result<usize, Refusal>
     ensures { (result ≡ back_in generator.old) × (generator.new ≡ back_left generator.old) }
 {
-    if generator.len() == 32 {
-        let s = state_at(generator);
-        if zeros(s) {
-            return Saved::Refused(refusal::ZERO_STATE);
-        }
-        put_state(generator, back(s));
-        return Saved::Size(32);
-    }
-    Saved::Refused(refusal::BAD_LENGTH)
+    let s = state_in(generator)?;
+    put_state(generator, back(s));
+    Ok(STATE_SIZE)
 }
 
-// The event with the draw that the generator gives the sender, where it is an ack.
-fn handed(s: Sender, generator: State, e: Event) -> Event
-    ensures { result ≡ handed_event s generator e }
+// An event over a tree that was tested; an ack's draw is the generator's, which is not four zeros.
+#[tactic(auto, unfolding(crate::specs::Parts::drawn_event))]
+fn drawn(rules: &Rules<'_>, from: Left, e: Event) -> Drawing
+    ensures { result ≡ drawn_event rules.now.grown.tree.now from.sender from.generator e }
 {
-    let stepped = next(generator);
-    let mode = s.repeat_actions;
-    let draw = draw_in(mode, stepped.output);
+    let Left { sender, generator } = from;
     match e {
-        Event::Ack(sent, received, _) => Event::Ack(sent, received, draw),
-        Event::Send(at) => Event::Send(at),
-        Event::Tick => Event::Tick,
+        Event::Ack(x) => taken(rules, sender, generator, x.sent, x.received),
+        Event::Send(at) => Drawing {
+            reply: sender.packet_sent(at),
+            generator,
+        },
+        Event::Tick => Drawing {
+            reply: Ok(sender.tick()),
+            generator,
+        },
     }
 }
 
-// The generator after an event and its reply: it steps at an ack that is taken and had a draw due.
-fn stepped_by(s: Sender, generator: State, e: Event, reply: Reply) -> State
-    ensures { result ≡ stepped_by s generator e reply }
+// What the events leave; their replies are put into out. One loop for this and host_sender's is no plainer: it would take a trait of what an
+// event leaves, with its own fold and law of it, for these ten lines.
+fn run(rules: &Rules<'_>, from: Left, list: &[u8], out: &mut [u8]) -> Left
+    requires { (zeros_of from.generator ≡ false) × (6 * event_count list.now ≤ length out.old) }
+    ensures { let cs = calls_in rules.now.grown.tree.now list.now (event_count list.now) in (result.sender ≡ own_end from.sender from.generator cs) × ((result.generator ≡ generator_end from.sender from.generator cs) × (out.new ≡ sets out.old 0 (replies_of (own_replies from.sender from.generator cs)))) }
 {
-    let stepped = next(generator);
-    let after = stepped.state;
-    let mode = s.repeat_actions;
-    let pending = s.next_change;
-    let due = due_in(mode, pending);
-    match e {
-        Event::Ack(_, _, _) => generator_after(due, reply, generator, after),
-        Event::Send(_) => generator,
-        Event::Tick => generator,
+    let mut left = from;
+    for i in 0..list.len() / EVENT_SIZE {
+        let at = EVENT_SIZE * i;
+        let reply = drawn(rules, left, event_at(&list[at..at + EVENT_SIZE]));
+        put_reply(out, REPLY_SIZE * i, reply.reply);
+        left = Left {
+            sender: left_by(left.sender, reply.reply),
+            generator: reply.generator,
+        };
     }
-}
-
-// What the first n events leave; their replies are put into out. The links are gathered once, and each event reads one node.
-fn run(tree: RuleTree, s: Sender, generator: State, list: &[u8], n: usize, out: &mut [u8]) -> Left
-    requires { (grown_of tree ≡ true) × ((zeros_of generator ≡ false) × ((22 * n ≤ length list.now) × (6 * n ≤ length out.old))) }
-    ensures { (result.sender ≡ own_end s generator (calls_in tree list.now n)) × ((result.generator ≡ generator_end s generator (calls_in tree list.now n)) × (out.new ≡ sets out.old 0 (replies_of (own_replies s generator (calls_in tree list.now n))))) }
-{
-    let ends = tree.ends;
-    let root = Cube::root(ends);
-    let children = links::children_of(tree);
-    let mut left = s;
-    let mut g = generator;
-    let mut i: usize = 0;
-    while i < n {
-        let at = 22 * i;
-        let bytes = &list[at..at + 22];
-        let e = handed(left, g, event_at(bytes));
-        let asked = ask_for(&children, root, left, e);
-        let node = node_of(asked) as usize;
-        let x = tree.nodes[node];
-        let a = x.action();
-        let reply = answer(asked, a, draw_of(e));
-        put_reply(out, 6 * i, reply);
-        g = stepped_by(left, g, e, reply);
-        left = left_by(left, reply);
-        i += 1;
-    }
-    Left {
-        sender: left,
-        generator: g,
-    }
+    left
 }
 
 // A whole sender, a whole generator and whole events, by their lengths.
+#[tactic(auto, using(std::proofs::lemmas::Bool::Decides::nat_tests), unfolding(crate::specs::OwnEvents::whole_of))]
 fn whole(sender: usize, generator: usize, list: usize) -> bool
     ensures { result ≡ whole_of sender generator list }
 {
-    if sender == 108 {
-        if generator == 32 {
-            return list % 22 == 0;
-        }
-    }
-    false
+    sender == SENDER_SIZE && generator == STATE_SIZE && list % EVENT_SIZE == 0
 }
 
-// The events over a tree that was tested, with lengths that were. A refused call writes nothing.
+// The events over a tree that was tested. A refused call writes nothing.
+#[tactic(auto, unfolding(crate::specs::OwnEvents::played_in, crate::specs::OwnEvents::played_sender, crate::specs::OwnEvents::played_generator, crate::specs::OwnEvents::played_replies))]
 fn played(
-    tree: RuleTree,
+    tree: Grown<'_>,
     sender: &mut [u8],
     generator: &mut [u8],
     list: &[u8],
     out: &mut [u8],
-) -> Saved
-    requires { (grown_of tree ≡ true) × (whole_of (length sender.old) (length generator.old) (length list.now) ≡ true) }
-    ensures { (result ≡ played_in generator.old list.now out.old) × ((sender.new ≡ played_sender tree sender.old generator.old list.now out.old) × ((generator.new ≡ played_generator tree sender.old generator.old list.now out.old) × (out.new ≡ played_replies tree sender.old generator.old list.now out.old))) }
+) -> Result<usize, Refusal>
+    ensures { let t = tree.entry.tree.now in (result ≡ played_in sender.old generator.old list.now out.old) × ((sender.new ≡ played_sender t sender.old generator.old list.now out.old) × ((generator.new ≡ played_generator t sender.old generator.old list.now out.old) × (out.new ≡ played_replies t sender.old generator.old list.now out.old))) }
 {
-    let g = state_at(generator);
-    if zeros(g) {
-        return Saved::Refused(refusal::ZERO_STATE);
+    if !whole(sender.len(), generator.len(), list.len()) {
+        return Err(Refusal::BadLength);
     }
-    let n = list.len() / 22;
-    let size = 6 * n;
-    if size <= out.len() {
-        let s = read_sender(sender);
-        let left = run(tree, s, g, list, n, out);
-        let after = left.sender;
-        let stepped = left.generator;
-        write_sender(sender, after);
-        put_state(generator, stepped);
-        return Saved::Size(size);
+    let g = state_in(generator)?;
+    let size = REPLY_SIZE * (list.len() / EVENT_SIZE);
+    if size > out.len() {
+        return Err(Refusal::ShortBuffer);
     }
-    Saved::Refused(refusal::SHORT_BUFFER)
+    let from = Left {
+        sender: read_sender(sender),
+        generator: g,
+    };
+    let left = run(&Rules::of(tree), from, list, out);
+    write_sender(sender, left.sender);
+    put_state(generator, left.generator);
+    Ok(size)
 }
 
 // Takes the events in a list over the tree of a record's trainer, as events does, with the generator's draws: the sender's and the generator's bytes become
 // those after them, and out gets the replies. A refused call writes nothing.
+#[tactic(auto, using(record::proofs::Loaded::loaded_grown, record::proofs::Loaded::loaded_few))]
 pub fn own_events(
     held: &[u8],
     sender: &mut [u8],
     generator: &mut [u8],
     list: &[u8],
     out: &mut [u8],
-) -> Saved
+) -> Result<usize, Refusal>
     ensures { (result ≡ own_in held.now sender.old generator.old list.now out.old) × ((sender.new ≡ own_sender held.now sender.old generator.old list.now out.old) × ((generator.new ≡ own_generator held.now sender.old generator.old list.now out.old) × (out.new ≡ own_out_of held.now sender.old generator.old list.now out.old))) }
 {
-    let loaded = record::load(held);
-    let refused = loaded.refused;
-    if refused == 0 {
-        if whole(sender.len(), generator.len(), list.len()) {
-            let trainer = loaded.trainer;
-            let tree = trainer.tree;
-            return played(tree, sender, generator, list, out);
-        }
-        return Saved::Refused(refusal::BAD_LENGTH);
-    }
-    Saved::Refused(refused)
+    let t = record::load(held)?;
+    played(Grown { tree: &t.tree }, sender, generator, list, out)
 }

@@ -1,5 +1,5 @@
 -- What is asked for in a row, whatever the scores: of an accepted trainer each score is taken, and the question after it is for the next action. Assumes nothing.
-use mathlib.Core.Path.{◌≡◌, refl, sym, ap, subst, ◌∙◌}
+use mathlib.Core.Path.{◌≡◌, refl, ap, ◌∙◌}
 use mathlib.Core.Bool.{Bool, true, false}
 use mathlib.Core.List.{List, [], ◌∷◌}
 use Prim.Native.Nat.{ℕ, suc, ◌+◌, ◌<◌}
@@ -11,11 +11,12 @@ use lib.Seq.{get_or-drop}
 use lib.Ieee.{Float}
 use Rattle.remy.specs.declared.action.Action.{Action}
 use Rattle.trainer.specs.declared.Trainer.{Trainer}
-use Rattle.trainer.specs.declared.Answered.{Answered}
+use Rattle.std.specs.Prelude.{Result, Ok}
+use Rattle.refusal.specs.declared.Refusal.{Refusal}
+use Rattle.refusal.specs.Guards.{and_then}
 use Rattle.trainer.specs.declared.Question.TheVariants as question
 use Rattle.trainer.specs.Candidates.{candidates_of, no_candidate}
 use Rattle.trainer.specs.State.{leaf_action, accepted_of}
-use Rattle.trainer.specs.Phases.{taken}
 use Rattle.trainer.specs.Calls.{progress_of, asked_of, question_of, answer_score_of}
 use Rattle.host_lists.specs.Lists.{asked_in_a_row}
 use Rattle.host_lists.specs.Runs.{scores_of}
@@ -37,7 +38,7 @@ steps t x h l = by_phase t (omega arith) (λ p. four_steps t x h p l) (λ n p. f
 
 -- ---- the question is for the first of the row
 abbrev Asks : Trainer → Trainer → ℕ → Type 0
-Asks t u i = question_of u ≡ question.Score t.leaf (get_or (asked_in_a_row t) i no_candidate) (progress_of t)
+Asks t u i = question_of u ≡ Ok (question.Score t.leaf (get_or (asked_in_a_row t) i no_candidate) (progress_of t))
 
 asks_four : (t : Trainer) → accepted_of t ≡ true → t.phase ≡ 4 → Asks t t 0
 unfolding question_of asked_of
@@ -52,29 +53,27 @@ asks_five t h n p =
     rw (h, ne_eqb t.phase 4 n, eq-eqb t.phase 5 p, asked_five t n p, e)
 
 -- ---- the row
-more_is : (t : Trainer) (x : Float) (xs : List Float) → (answer_score_of t x).refused ≡ 0 → scores_of t (x ∷ xs) ≡ scores_of (answer_score_of t x).trainer xs
-unfolding scores_of
-more_is t x xs e = rw (eq-eqb (answer_score_of t x).refused 0 e)
-
-none_is : (t : Trainer) → scores_of t [] ≡ taken t
-unfolding scores_of
-none_is t = refl
+-- the trainer after some scores, of which none was refused, asks for action i of the row
+pub record Row (t : Trainer) (a : Result Trainer Refusal) (i : ℕ) : Type 0 where
+  pub after : Trainer
+  pub is : a ≡ Ok after
+  pub asks : Asks t after i
 
 -- after any scores, fewer than are asked for in a row, none was refused and the question is for the next action of the row
-pub in_a_row : (xs : List Float) (t : Trainer) → accepted_of t ≡ true → length xs < length (asked_in_a_row t)
-    → ((scores_of t xs).refused ≡ 0)
-    × (question_of (scores_of t xs).trainer ≡ question.Score t.leaf (get_or (asked_in_a_row t) (length xs) no_candidate) (progress_of t))
-in_a_row [] t h l =
-    subst (λ (a : Answered). (a.refused ≡ 0) × Asks t a.trainer 0) (sym (none_is t))
-    (refl, by_phase t l (λ p. asks_four t h p) (λ n p. asks_five t h n p))
+pub in_a_row : (xs : List Float) (t : Trainer) → accepted_of t ≡ true → length xs < length (asked_in_a_row t) → Row t (scores_of t xs) (length xs)
+unfolding scores_of
+in_a_row [] t h l = record { after = t; is = refl; asks = by_phase t l (λ p. asks_four t h p) (λ n p. asks_five t h n p) }
 in_a_row (x ∷ xs) t h l =
     let s = steps t x h (omega arith) in
-    let u = (answer_score_of t x).trainer in
-    let n = s.1 in
+    let u = s.after in
+    let n = s.next in
     let short : length xs < length (asked_in_a_row u) = (let e = ap length n.row ∙ length-drop 1 (asked_in_a_row t) in omega arith) in
     let r = in_a_row xs u n.accepted short in
     let at : get_or (asked_in_a_row u) (length xs) no_candidate ≡ get_or (asked_in_a_row t) (suc (length xs)) no_candidate =
     ap (λ (ys : List Action). get_or ys (length xs) no_candidate) n.row ∙ get_or-drop 1 (asked_in_a_row t) (length xs) no_candidate
     ∙ ap (λ (i : ℕ). get_or (asked_in_a_row t) i no_candidate) (let z : 1 + length xs ≡ suc (length xs) = omega arith in z) in
-    subst (λ (a : Answered). (a.refused ≡ 0) × Asks t a.trainer (suc (length xs))) (sym (more_is t x xs s.0))
-    (r.0, r.1 ∙ (λ j. question.Score (n.leaf j) (at j) (n.progress j)))
+    record {
+      after = r.after;
+      is = ap (λ (a : Result Trainer Refusal). and_then a (λ v. scores_of v xs)) s.is ∙ r.is;
+      asks = r.asks ∙ (λ j. Ok (question.Score (n.leaf j) (at j) (n.progress j)));
+    }

@@ -1,7 +1,7 @@
 pub mod Listing
 pub mod Products
 pub mod Rows
-pub mod Calls
 pub mod NextCandidate
 pub mod ScoreSteps
 pub mod InARow
+pub mod CandidateCalls

@@ -10,8 +10,9 @@ use lib.ListN.{length, take, drop, get_or, length-append}
 use lib.Seq.{sets, take-suc, take_all, length-take-le}
 use Rattle.remy.specs.declared.action.Action.{Action}
 use Rattle.trainer.specs.Candidates.{no_candidate}
-use Rattle.record.specs.declared.Saved.{Saved}
-use Rattle.record.specs.declared.Saved.TheVariants.{Size, Refused}
+use Rattle.std.specs.Prelude.{Some, None, Option, Result, Ok, Err}
+use Rattle.refusal.specs.declared.Refusal.{Refusal}
+use Rattle.refusal.specs.declared.Refusal.TheVariants.{ShortBuffer}
 use Rattle.wire.specs.Fields.{action_bytes}
 use Rattle.wire.proofs.Stores.{wrote}
 use Rattle.record.proofs.Writing.{action_count}
@@ -56,32 +57,24 @@ pub list_done : (l m : List ℕ) (at : ℕ) (xs : List Action) (j : ℕ) → len
 list_done l m at xs j h e = e ∙ ap (λ (ys : List Action). sets l at (list_bytes ys)) (take_all j xs h)
 
 -- ---- the action itself, where it is asked for
-pub own_yes : (own : Bool) (a : Action) → own ≡ true → 20 * length (own_part own a) ≡ 20
+pub own_few : (own : Option Action) → length (own_part own) ≤ 1
 unfolding own_part
-own_yes own a e = rw e
+own_few (Some a) = omega arith
+own_few None = omega arith
 
-pub own_no : (own : Bool) (a : Action) → own ≡ false → 20 * length (own_part own a) ≡ 0
+pub own_put : (l : List ℕ) (a : Action) {m : List ℕ} → m ≡ sets l 0 (action_bytes a) → m ≡ sets l 0 (list_bytes (own_part (Some a)))
 unfolding own_part
-own_no own a e = rw e
+own_put l a p = p ∙ ap (sets l 0) (sym (list_one a))
 
-pub own_few : (own : Bool) (a : Action) → length (own_part own a) ≤ 1
-unfolding own_part
-own_few true a = omega arith
-own_few false a = omega arith
-
-pub own_put : (l : List ℕ) (own : Bool) (a : Action) {m : List ℕ} → own ≡ true → m ≡ sets l 0 (action_bytes a) → m ≡ sets l 0 (list_bytes (own_part own a))
-unfolding own_part
-own_put l own a e p = p ∙ rw e (ap (sets l 0) (sym (list_one a)))
-
-pub own_none : (l : List ℕ) (own : Bool) (a : Action) → own ≡ false → l ≡ sets l 0 (list_bytes (own_part own a))
+pub own_none : (l : List ℕ) → l ≡ sets l 0 (list_bytes (own_part None))
 unfolding own_part list_bytes
-own_none l own a e = rw e
+own_none l = refl
 
 -- ---- what a call answers that writes a list, and the buffer after it
-abbrev pub Wrote : List Action → List ℕ → Saved → List ℕ → Type 0
-Wrote xs out r l = (r ≡ list_fits xs out) × (l ≡ list_after xs out (list_fits xs out))
+abbrev pub Wrote : List Action → List ℕ → Result ℕ Refusal → List ℕ → Type 0
+Wrote xs out r l = (r ≡ list_fits xs out) × (l ≡ list_after xs out)
 
-pub wrote_as : {xs ys : List Action} (out : List ℕ) {r : Saved} {l : List ℕ} → xs ≡ ys → Wrote xs out r l → Wrote ys out r l
+pub wrote_as : {xs ys : List Action} (out : List ℕ) {r : Result ℕ Refusal} {l : List ℕ} → xs ≡ ys → Wrote xs out r l → Wrote ys out r l
 wrote_as out {r} {l} e p = subst (λ (zs : List Action). Wrote zs out r l) e p
 
 -- two lists after each other
@@ -90,7 +83,7 @@ module _ (xs ys : List Action) (out : List ℕ) where
   both = let e = length-append xs ys in omega arith
 
   pub list_fits_lem : (at n : ℕ) {l m : List ℕ} → at ≡ 20 * length xs → n ≡ length ys → at + 20 * n ≤ length out
-      → l ≡ sets out 0 (list_bytes xs) → m ≡ sets l at (list_bytes ys) → Wrote (xs ++ ys) out (Size (at + 20 * n)) m
+      → l ≡ sets out 0 (list_bytes xs) → m ≡ sets l at (list_bytes ys) → Wrote (xs ++ ys) out (Ok (at + 20 * n)) m
   unfolding list_fits list_after
   list_fits_lem at n {l} {m} ea en h p q =
       let size : at + 20 * n ≡ 20 * length (xs ++ ys) = let e = both in omega arith in
@@ -99,17 +92,17 @@ module _ (xs ys : List Action) (out : List ℕ) where
       let w : m ≡ sets out 0 (list_bytes xs ++ list_bytes ys) =
       wrote out l 0 at (list_bytes xs) (list_bytes ys) (q ∙ ap (λ (k : ℕ). sets l k (list_bytes ys)) (let z : at ≡ 0 + at = omega arith in z)) p (list_count xs ∙ sym ea) in
       rw (le-leb (20 * length (xs ++ ys)) (length out) f) (
-        ap Size size,
+        ap (λ (k : ℕ). Ok k) size,
         stored out (list_bytes (xs ++ ys)) (omega arith) (w ∙ ap (sets out 0) (sym (list_append xs ys))) ∙ ap (λ (k : ℕ). list_bytes (xs ++ ys) ++ drop k out) c,
       )
 
-  pub list_short : (at n : ℕ) → at ≡ 20 * length xs → n ≡ length ys → length out < at + 20 * n → Wrote (xs ++ ys) out (Refused 9) out
+  pub list_short : (at n : ℕ) → at ≡ 20 * length xs → n ≡ length ys → length out < at + 20 * n → Wrote (xs ++ ys) out (Err ShortBuffer) out
   unfolding list_fits list_after
   list_short at n ea en h =
       let e = both in
       rw (lt-leb (20 * length (xs ++ ys)) (length out) (omega arith)) (refl, refl)
 
 -- an empty list fits everywhere
-pub list_empty : (out : List ℕ) → Wrote [] out (Size 0) out
+pub list_empty : (out : List ℕ) → Wrote [] out (Ok 0) out
 unfolding list_fits list_after list_bytes
 list_empty out = rw (le-leb 0 (length out) (omega arith)) (refl, refl)

@@ -7,56 +7,38 @@ ghost use Rattle.host_lists.specs.Lists.{candidates_in, candidates_after, row_in
 
 use crate::inner::rows;
 use host_trainer::inner::records;
-use record::Saved;
-use wire::inner::read;
+use refusal::Refusal;
 
 pub mod inner;
 
 // All candidates of an action, 20 bytes each.
-pub fn candidates(settings: &[u8], action: &[u8], out: &mut [u8]) -> Saved
+#[tactic(auto, using(std::proofs::lemmas::Bool::Decides::nat_tests), unfolding(crate::specs::Lists::candidates_in, crate::specs::Lists::candidates_after, crate::specs::Parts::candidates_with, crate::specs::Parts::candidates_with_after, host_trainer::specs::Records::settings_of, refusal::specs::Guards::pass))]
+pub fn candidates(settings: &[u8], action: &[u8], out: &mut [u8]) -> Result<usize, Refusal>
     ensures { (result ≡ candidates_in settings.now action.now out.old) × (out.new ≡ candidates_after settings.now action.now out.old) }
 {
-    if settings.len() == 137 {
-        if read::byte_at(settings, 12) <= 1 {
-            let s = records::settings_in(settings);
-            if s.hold() {
-                return rows::candidates_with(s, action, out);
-            }
-        }
+    let s = records::settings_of(settings)?;
+    if !s.hold() {
+        return Err(Refusal::BadSettings);
     }
-    Saved::Refused(refusal::BAD_SETTINGS)
+    rows::candidates_with(&s, action, out)
 }
 
 // The actions whose scores the trainer of a record asks for in a row, 20 bytes each.
-pub fn asked(held: &[u8], out: &mut [u8]) -> Saved
+#[tactic(auto, using(record::proofs::Loaded::loaded_accepted), unfolding(crate::specs::Lists::row_in, crate::specs::Lists::row_after))]
+pub fn asked(held: &[u8], out: &mut [u8]) -> Result<usize, Refusal>
     ensures { (result ≡ row_in (load_of held.now) out.old) × (out.new ≡ row_after (load_of held.now) out.old) }
 {
-    let a = record::load(held);
-    if a.refused == 0 {
-        let t = a.trainer;
-        return rows::asked_by(t, out);
-    }
-    Saved::Refused(a.refused)
+    let t = record::load(held)?;
+    rows::asked_by(&t, out)
 }
 
-// Whether the trees of two records are equal: 1 or 0.
-pub fn equal(a: &[u8], b: &[u8]) -> Saved
+// Whether the trees of two records are equal: 1 or 0, as the C interface has it.
+#[tactic(auto, unfolding(crate::specs::Lists::equal_in))]
+pub fn equal(a: &[u8], b: &[u8]) -> Result<usize, Refusal>
     ensures { result ≡ equal_in (load_of a.now) (load_of b.now) }
 {
-    let first = record::load(a);
-    if first.refused == 0 {
-        let second = record::load(b);
-        if second.refused == 0 {
-            let t = first.trainer;
-            let u = second.trainer;
-            let p = t.tree;
-            let q = u.tree;
-            if rule_tree::inner::equal::equal(p, q) {
-                return Saved::Size(1);
-            }
-            return Saved::Size(0);
-        }
-        return Saved::Refused(second.refused);
-    }
-    Saved::Refused(first.refused)
+    let first = record::load(a)?;
+    let second = record::load(b)?;
+    let same = rule_tree::inner::equal::equal(&first.tree, &second.tree);
+    Ok(usize::from(same))
 }

@@ -142,9 +142,9 @@ list_left t r out =
 
 -- ---- a row
 pub tested_read : (t : RuleTree) → grown_of t ≡ true → length t.nodes ≡ 513 → PointFits t.ends → (p : Point)
-    → number_at (row_of (opened_of t p).found (opened_of t p).tested) 21 2 ≡ (opened_of t p).tested
+    → number_at (row_of (opened_of t p)) 21 2 ≡ (opened_of t p).tested
 tested_read t g n f p =
     let x = (opened_of t p).found in
     let k = (opened_of t p).tested in
     let few = opened_few t g n f p in
-    number_stands (row_of x k) 21 2 k [] (omega arith) (drop_at (found_bytes x) (bytes_of 2 k) 21 (found_count x) ∙ sym (append-nil (bytes_of 2 k)))
+    number_stands (row_of (opened_of t p)) 21 2 k [] (omega arith) (drop_at (found_bytes x) (bytes_of 2 k) 21 (found_count x) ∙ sym (append-nil (bytes_of 2 k)))

@@ -1,4 +1,3 @@
 pub mod Within
-pub mod Laws
 pub mod Tested
-pub mod Seeking
+pub mod Laws

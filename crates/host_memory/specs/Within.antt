@@ -1,14 +1,12 @@
 -- 02, wish 12, for hosts: "memory known only within ranges", over a record and bytes.
-use Rattle.std.specs.Prelude.{cond, Result, Ok, Err, List, [], ◌∷◌, ℕ, ◌+◌, ◌*◌, ◌/◌, length, eqb}
+use Rattle.std.specs.Prelude.{cond, Result, Ok, List, [], ◌∷◌, ℕ, ◌+◌, ◌*◌, ◌/◌, length, eqb}
 use Rattle.std.proofs.lemmas.List.Edits.{sets}
 use Rattle.refusal.specs.declared.Refusal.{Refusal}
-use Rattle.refusal.specs.Numbers.{bad_length, number_of}
-use Rattle.refusal.specs.Guards.{Test, test, guarded, checked, pass}
+use Rattle.refusal.specs.declared.Refusal.TheVariants.{BadLength}
+use Rattle.refusal.specs.Guards.{Check, check, checked, pass, and_then, lent_after}
 use Rattle.rule_tree.specs.declared.RuleTree.{RuleTree}
 use Rattle.rule_tree.specs.Lists.{tabulate}
-use Rattle.record.specs.declared.Saved.{Saved}
-use Rattle.record.specs.declared.Saved.TheVariants.{Size, Refused}
-use Rattle.record.specs.Calls.{load_of, record_test}
+use Rattle.record.specs.Calls.{load_of}
 use Rattle.wire.specs.Bytes.{shorts_bytes, number_at}
 use Rattle.wire.specs.Fields.{float_at}
 use Rattle.ranges.specs.declared.Range.{Range}
@@ -27,29 +25,22 @@ abbrev pub list_in : List ℕ → List ℕ
 list_in out = tabulate (length out / 2) (λ i. number_at out (2 * i) 2)
 
 -- ---- over a tree
--- "their number is returned", two bytes for each; a refusal by its number
-abbrev pub saved : Result ℕ Refusal → Saved
-saved (Ok n) = Size (2 * n)
-saved (Err k) = Refused (number_of k)
-
--- "refused with 28 and then a list shorter than the number of leaves found with 29"
-unfoldable pub listed_in : RuleTree → Ranges → List ℕ → Saved
-listed_in t r out = saved (checked (ranges_order t r (list_in out)) (Ok (length (leaves_within t r))))
+-- "refused with 28 and then a list shorter than the number of leaves found with 29"; "their number is returned", two bytes for each
+unfoldable pub listed_in : RuleTree → Ranges → List ℕ → Result ℕ Refusal
+listed_in t r out = checked (ranges_order t r (list_in out)) (Ok (2 * length (leaves_within t r)))
 
 -- "They are written to a lent list by rising node"; "the rest of the list is unchanged", and all of it where the call is refused
 unfoldable pub listed_after : RuleTree → Ranges → List ℕ → List ℕ
 listed_after t r out = cond (pass (ranges_order t r (list_in out))) (sets out 0 (shorts_bytes (leaves_within t r))) out
 
 -- ---- over a record: its own 6, 7, 8, then 6 for ranges of another length
-abbrev pub held_order : List ℕ → List ℕ → List Test
-held_order held ranges = record_test held ∷ test (eqb (length ranges) 48) bad_length ∷ []
+abbrev pub length_order : List ℕ → List Check
+length_order ranges = check (eqb (length ranges) 48) BadLength ∷ []
 
-unfoldable pub within_in : List ℕ → List ℕ → List ℕ → Saved
-unfolding listed_in
+unfoldable pub within_in : List ℕ → List ℕ → List ℕ → Result ℕ Refusal
 within_in held ranges out =
-    guarded (held_order held ranges) Refused (listed_in (load_of held).trainer.tree (ranges_in ranges) out)
+    and_then (load_of held) (λ t. checked (length_order ranges) (listed_in t.tree (ranges_in ranges) out))
 
 unfoldable pub within_after : List ℕ → List ℕ → List ℕ → List ℕ
-unfolding listed_after
 within_after held ranges out =
-    guarded (held_order held ranges) (λ k. out) (listed_after (load_of held).trainer.tree (ranges_in ranges) out)
+    lent_after (load_of held) out (λ t. cond (pass (length_order ranges)) (listed_after t.tree (ranges_in ranges) out) out)

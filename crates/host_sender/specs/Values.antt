@@ -1,18 +1,14 @@
 -- What a sender of the type Sender holds: floats of binary64, numbers of 32 bits.
-use Rattle.std.specs.Prelude.{true, ◌^◌, ◌<◌, T}
+use Rattle.std.specs.Prelude.{true, ◌^◌, ◌<◌, T, Option, Some, None}
 use Rattle.std.specs.Float.{binary64}
 use Rattle.std.specs.Float.Ieee.{fits}
 use Rattle.std.specs.Int.{w32}
 use Rattle.std.proofs.Common.{SFits}
 use Rattle.remy.specs.declared.action.Action.{Action}
-use Rattle.sender.specs.declared.Moment.{Moment}
-use Rattle.sender.specs.declared.Moment.TheVariants as held
-use Rattle.sender.specs.declared.Average.{Average}
-use Rattle.sender.specs.declared.Average.TheVariants as averaged
+use Rattle.quantities.specs.declared.Time.{Time}
+use Rattle.quantities.specs.declared.TimeSpan.{TimeSpan}
 use Rattle.sender.specs.declared.Rtt.{Rtt}
-use Rattle.sender.specs.declared.Rtt.TheVariants as trips
-use Rattle.sender.specs.declared.Pending.{Pending}
-use Rattle.sender.specs.declared.Pending.TheVariants.{Idle, Repeat}
+use Rattle.sender.specs.declared.Repeat.{Repeat}
 use Rattle.sender.specs.declared.RepeatMode.{RepeatMode}
 use Rattle.sender.specs.declared.RepeatMode.TheVariants.{Off, Always, Between}
 use Rattle.sender.specs.declared.Sender.{Sender}
@@ -22,21 +18,22 @@ pub record FitAction (a : Action) : Type 0 where
   pub increment : SFits w32 a.window_increment
   pub delay : T (fits binary64 a.intersend_delay.0)
 
-abbrev pub FitMoment : Moment → Type 0
-FitMoment held.Never = T true
-FitMoment (held.At t) = T (fits binary64 t.0)
+-- what is not there fits
+abbrev pub IfThere : {A : Type 0} → (A → Type 0) → Option A → Type 0
+IfThere P None = T true
+IfThere P (Some x) = P x
 
-abbrev pub FitAverage : Average → Type 0
-FitAverage averaged.Empty = T true
-FitAverage (averaged.Of a) = T (fits binary64 a.0)
+abbrev pub FitMoment : Option Time → Type 0
+FitMoment m = IfThere (λ t. T (fits binary64 t.0)) m
 
-abbrev pub FitTrips : Rtt → Type 0
-FitTrips trips.Unknown = T true
-FitTrips (trips.Known shortest current) = T (fits binary64 shortest.0) × T (fits binary64 current.0)
+abbrev pub FitAverage : Option TimeSpan → Type 0
+FitAverage a = IfThere (λ x. T (fits binary64 x.0)) a
 
-abbrev pub FitPending : Pending → Type 0
-FitPending Idle = T true
-FitPending (Repeat left a) = (left < 2 ^ 32) × FitAction a
+abbrev pub FitTrips : Option Rtt → Type 0
+FitTrips r = IfThere (λ trips. T (fits binary64 trips.shortest.0) × T (fits binary64 trips.current.0)) r
+
+abbrev pub FitPending : Option Repeat → Type 0
+FitPending p = IfThere (λ r. (r.left < 2 ^ 32) × FitAction r.action) p
 
 abbrev pub FitMode : RepeatMode → Type 0
 FitMode Off = T true

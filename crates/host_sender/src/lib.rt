@@ -2,40 +2,33 @@
 #![tactic(auto)]
 
 ghost use Rattle.std.specs.Prelude.{◌≡◌};
-ghost use Rattle.record.specs.Calls.{load_of};
 ghost use Rattle.host_sender.specs.Layout.{new_in, new_after};
 ghost use Rattle.host_sender.specs.Events.{events as events_of, sender_left, replies_left};
 
 use crate::inner::{read, run, write};
-use record::Saved;
-use sender::{Made, Sender};
+use refusal::Refusal;
+use rule_tree::inner::grown::Grown;
+use sender::Sender;
 
 pub mod inner;
 
 // Writes a new sender with the repeat mode in 9 bytes, and answers its size. A refused call writes nothing.
-pub fn new(mode: &[u8], out: &mut [u8]) -> Saved
-    ensures { (result ≡ new_in mode.now out.old) × (out.new ≡ new_after mode.now out.old (new_in mode.now out.old)) }
+#[tactic(auto, unfolding(crate::specs::Layout::made_in, crate::specs::Layout::new_in, crate::specs::Layout::new_after))]
+pub fn new(mode: &[u8], out: &mut [u8]) -> Result<usize, Refusal>
+    ensures { (result ≡ new_in mode.now out.old) × (out.new ≡ new_after mode.now out.old) }
 {
-    if read::mode_whole(mode) {
-        return match Sender::new(read::mode_at(mode, 0)) {
-            Made::Ready(s) => write::store(out, s),
-            Made::Refused(k) => Saved::Refused(k),
-        };
+    if !read::mode_whole(mode) {
+        return Err(Refusal::BadSettings);
     }
-    Saved::Refused(refusal::BAD_SETTINGS)
+    write::store(out, Sender::new(read::mode_at(mode, 0))?)
 }
 
 // Takes the events in a list, over the tree of a record's trainer: the sender's bytes become the sender after them, and out gets
 // the replies. A refused call writes nothing.
-pub fn events(held: &[u8], sender: &mut [u8], list: &[u8], out: &mut [u8]) -> Saved
-    ensures { (result ≡ events_of held.now sender.old list.now out.old) × (sender.new ≡ sender_left (load_of held.now).trainer.tree sender.old list.now (events_of held.now sender.old list.now out.old)) × (out.new ≡ replies_left (load_of held.now).trainer.tree sender.old list.now out.old (events_of held.now sender.old list.now out.old)) }
+#[tactic(auto, using(record::proofs::Loaded::loaded_grown, record::proofs::Loaded::loaded_few))]
+pub fn events(held: &[u8], sender: &mut [u8], list: &[u8], out: &mut [u8]) -> Result<usize, Refusal>
+    ensures { (result ≡ events_of held.now sender.old list.now out.old) × (sender.new ≡ sender_left held.now sender.old list.now out.old) × (out.new ≡ replies_left held.now sender.old list.now out.old) }
 {
-    let loaded = record::load(held);
-    let refused = loaded.refused;
-    if refused == 0 {
-        let trainer = loaded.trainer;
-        let tree = trainer.tree;
-        return run::events_on(tree, sender, list, out);
-    }
-    Saved::Refused(refused)
+    let t = record::load(held)?;
+    run::events_on(Grown { tree: &t.tree }, sender, list, out)
 }

@@ -1,8 +1,5 @@
 pub mod RecordWays
-pub mod ChangeWays
 pub mod QuestionWays
 pub mod LookupWays
-pub mod SpotWays
 pub mod Runs
-pub mod UndoWays
 pub mod UndoLaws

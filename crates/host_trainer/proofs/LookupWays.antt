@@ -1,45 +1,37 @@
--- The ways through lookup: a point out of its 24 bytes, what the points find stored one after the other, and the refusals. Assumes nothing.
-use mathlib.Core.Path.{◌≡◌, refl, sym, ap, ◌∙◌}
-use mathlib.Core.Bool.{true, false}
+-- What points find stored one after the other, and that it is what a lookup of the tree gives. Assumes nothing.
+use mathlib.Core.Path.{◌≡◌, refl, sym, ap, subst, ◌∙◌}
+use mathlib.Core.Bool.{true}
 use mathlib.Core.List.{List, [], ◌∷◌, ◌++◌}
 use Prim.Native.Nat.{ℕ, zero, suc, ◌+◌, ◌*◌, ◌/◌, ◌%◌, ◌<◌, ◌≤◌}
-use native.Mathlib.Nat.{suc-add}
+use native.Mathlib.Nat.{suc-add, mul-suc, mul-zero, mul-le-mul, mul-le-mul_left}
 use native.Mathlib.Numerals.{add-one}
 use native.Mathlib.Omega.{arith}
 use borrow.Author.Tests.{eq-eqb, ne_eqb, le-leb, lt-leb}
-use lib.Ieee.{Float, binary64, of_bits}
+use lib.Ieee.{binary64, of_bits}
 use lib.ListN.{length, set, take, drop, replicate, length-append, length-replicate}
 use lib.Seq.{sets, take-nil, take-take, drop-drop}
+use Rattle.std.specs.Prelude.{Option, Some, None, Result, Ok, Err}
+use Rattle.refusal.specs.declared.Refusal.{Refusal}
+use Rattle.refusal.specs.declared.Refusal.TheVariants.{BadLength, ShortBuffer}
+use Rattle.refusal.specs.Guards.{pass}
 use Rattle.remy.specs.declared.action.Action.{Action}
 use Rattle.remy.specs.declared.point.Point.{Point}
 use Rattle.remy.specs.Action.{valid_of}
 use Rattle.remy.specs.Cube.{point_of}
 use Rattle.rule_tree.specs.declared.RuleTree.{RuleTree}
-use Rattle.rule_tree.specs.declared.Looked.{Looked}
-use Rattle.rule_tree.specs.declared.Looked.TheVariants as looked
 use Rattle.rule_tree.specs.Grown.{grown_of}
 use Rattle.rule_tree.specs.Change.{with_action}
 use Rattle.rule_tree.specs.Calls.{leaf_in, found_in, lookup_of, replaced_of}
-use Rattle.rule_tree.proofs.Changing.{action_grown}
-use Rattle.trainer.specs.declared.Answered.{Answered}
-use Rattle.record.specs.declared.Saved.{Saved}
-use Rattle.record.specs.declared.Saved.TheVariants.{Size, Refused}
 use Rattle.wire.specs.Bytes.{bytes_of, value_from, number_at}
-use Rattle.wire.specs.Fields.{action_bytes}
-use Rattle.wire.specs.Fields.{float_at, action_at}
-use Rattle.record.specs.Calls.{load_of}
+use Rattle.wire.specs.Fields.{action_bytes, action_at, point_at}
 use Rattle.wire.proofs.Stores.{wrote}
 use Rattle.record.proofs.Writing.{action_count}
-use Rattle.record.proofs.CallWays.{stored}
-use Rattle.record.proofs.Loading.{accepted_grown, load_again}
-use Rattle.host_trainer.specs.Lookups.{point_at, found_bytes, looked_bytes, sized, lookups_in, looks_after, lookups, lookups_after, replaced_in, replaced, replaced_after}
-use Rattle.host_trainer.specs.Parts.{replaced_for, replaced_look}
+use Rattle.trainer.specs.declared.Trainer.{Trainer}
+use Rattle.record.specs.Calls.{load_of}
+use Rattle.host_trainer.specs.Lookups.{found_bytes, rows_bytes, rows_in, rows_after, replaced_look, replaced_in, replaced_in_after, lookups, lookups_after}
+use Rattle.record.proofs.Loaded.{loaded_grown}
 
--- ---- a point
-pub point_read : (bytes : List ℕ) {p : Point} {x y z : Float} → p ≡ point_of x y z → x ≡ float_at bytes 0 → y ≡ float_at bytes 8 → z ≡ float_at bytes 16
-    → p ≡ point_at bytes 0
-point_read bytes e a b d = e ∙ rw (a, b, d)
-
+-- ---- a point of 24 bytes
 drop-take : (k n : ℕ) (l : List ℕ) → drop k (take (k + n) l) ≡ take n (drop k l)
 drop-take zero n l = ap (λ (m : ℕ). take m l) (let e : 0 + n ≡ n = omega arith in e)
 drop-take (suc k) n [] = ap (drop (suc k)) (take-nil (suc k + n)) ∙ sym (take-nil n)
@@ -62,195 +54,127 @@ part_point bytes at =
     λ j. point_of (of_bits binary64 (a j)) (of_bits binary64 (b j)) (of_bits binary64 (d j))
 
 -- ---- what a point finds
-pub found_count : (x : Looked) → length (found_bytes x) ≡ 21
+pub found_count : (x : Result (Option Action) Refusal) → length (found_bytes x) ≡ 21
 unfolding found_bytes
-found_count (looked.Found a) = ap suc (action_count a)
-found_count looked.Nothing = length-replicate {A = ℕ} 21 0
-found_count (looked.Refused k) = length-replicate {A = ℕ} 21 0
+found_count (Ok (Some a)) = ap suc (action_count a)
+found_count (Ok None) = length-replicate {A = ℕ} 21 0
+found_count (Err r) = length-replicate {A = ℕ} 21 0
 
-pub found_put : (l : List ℕ) (at : ℕ) {x : Looked} (a : Action) {l2 : List ℕ} → x ≡ looked.Found a → l2 ≡ sets (set l at 1) (at + 1) (action_bytes a)
-    → l2 ≡ sets l at (found_bytes x)
+pub found_put : (l : List ℕ) (at : ℕ) (a : Action) {l2 : List ℕ} → l2 ≡ sets (set l at 1) (at + 1) (action_bytes a) → l2 ≡ sets l at (found_bytes (Ok (Some a)))
 unfolding found_bytes
-found_put l at a e p = wrote l (set l at 1) at 1 (1 ∷ []) (action_bytes a) p refl refl ∙ rw e
+found_put l at a p = wrote l (set l at 1) at 1 (1 ∷ []) (action_bytes a) p refl refl
 
 zeros : replicate 21 0 ≡ bytes_of 21 0
 unfolding bytes_of
 zeros = refl
 
-pub none_put : (l : List ℕ) (at : ℕ) (x : Looked) {l2 : List ℕ} → ((a : Action) → x ≡ looked.Found a → ⊥) → l2 ≡ sets l at (bytes_of 21 0)
-    → l2 ≡ sets l at (found_bytes x)
+pub none_put : (l : List ℕ) (at : ℕ) {l2 : List ℕ} → l2 ≡ sets l at (bytes_of 21 0) → l2 ≡ sets l at (found_bytes (Ok None))
 unfolding found_bytes
-none_put l at (looked.Found a) n p = absurd (n a refl)
-none_put l at looked.Nothing n p = p ∙ ap (sets l at) (sym zeros)
-none_put l at (looked.Refused k) n p = p ∙ ap (sets l at) (sym zeros)
+none_put l at p = p ∙ ap (sets l at) (sym zeros)
 
--- ---- what the points find, one by one
-module _ (f : Point → Looked) (points : List ℕ) where
-  looked_suc : (i : ℕ) → looked_bytes f points (suc i) ≡ looked_bytes f points i ++ found_bytes (f (point_at points (24 * i)))
-  unfolding looked_bytes
-  looked_suc i = refl
+-- ---- the rows, one by one
+pub room : (w i n : ℕ) → i < n → w * i + w ≤ w * n
+room w i n h = let a : w * suc i ≤ w * n = mul-le-mul_left w (omega arith) in omega (arith, a, mul-suc w i)
 
-  pub looked_count : (n : ℕ) → length (looked_bytes f points n) ≡ 21 * n
-  unfolding looked_bytes
-  looked_count zero = refl
-  looked_count (suc n) =
-      let h = looked_count n in
-      let d = found_count (f (point_at points (24 * n))) in
-      length-append (looked_bytes f points n) (found_bytes (f (point_at points (24 * n)))) ∙ omega arith
+pub small : (w n m : ℕ) → w ≤ 24 → 24 * n ≤ m → w * n ≤ m
+small w n m a b = let c : w * n ≤ 24 * n = mul-le-mul a (omega arith) in omega (arith, c)
 
-  pub looks_none : (l : List ℕ) → l ≡ sets l 0 (looked_bytes f points 0)
-  unfolding looked_bytes
-  looks_none l = refl
+module _ (row : Point → List ℕ) (points : List ℕ) where
+  rows_suc : (i : ℕ) → rows_bytes row points (suc i) ≡ rows_bytes row points i ++ row (point_at points (24 * i))
+  unfolding rows_bytes
+  rows_suc i = refl
 
-  pub looks_turn : (l : List ℕ) (i m : ℕ) {l1 l2 : List ℕ} {p : Point} {x : Looked} → m ≡ 24 → l1 ≡ sets l 0 (looked_bytes f points i)
-      → p ≡ point_at (take m (drop (24 * i) points)) 0 → x ≡ f p → l2 ≡ sets l1 (21 * i) (found_bytes x)
-      → l2 ≡ sets l 0 (looked_bytes f points (i + 1))
-  looks_turn l i m {l1} {l2} {p} {x} em e ep ex q =
-      let same : found_bytes x ≡ found_bytes (f (point_at points (24 * i))) = ap found_bytes (ex ∙ ap f (ep ∙ ap (λ (k : ℕ). point_at (take k (drop (24 * i) points)) 0) em ∙ part_point points (24 * i))) in
-      wrote l l1 0 (21 * i) (looked_bytes f points i) (found_bytes (f (point_at points (24 * i))))
-      (q ∙ ap (λ (k : ℕ). sets l1 k (found_bytes x)) (let z : 21 * i ≡ 0 + 21 * i = omega arith in z) ∙ ap (sets l1 (0 + 21 * i)) same)
-      e (looked_count i)
-      ∙ ap (sets l 0) (sym (ap (looked_bytes f points) (add-one i) ∙ looked_suc i))
+  pub rows_empty : (w : ℕ) → length (rows_bytes row points 0) ≡ w * 0
+  unfolding rows_bytes
+  rows_empty w = sym (mul-zero w)
 
-  pub looks_done : (l m : List ℕ) (i n : ℕ) → i ≤ n → n ≤ i → m ≡ sets l 0 (looked_bytes f points i) → m ≡ sets l 0 (looked_bytes f points n)
-  looks_done l m i n a b e = e ∙ ap (λ (k : ℕ). sets l 0 (looked_bytes f points k)) (let q : i ≡ n = omega arith in q)
+  pub rows_longer : (w i : ℕ) → length (row (point_at points (24 * i))) ≡ w → length (rows_bytes row points i) ≡ w * i → length (rows_bytes row points (i + 1)) ≡ w * (i + 1)
+  rows_longer w i f h =
+      ap (λ (k : ℕ). length (rows_bytes row points k)) (add-one i) ∙ ap length (rows_suc i)
+      ∙ length-append (rows_bytes row points i) (row (point_at points (24 * i))) ∙ (let m = mul-suc w i in omega (arith, f, h, m)) ∙ ap (λ (k : ℕ). w * k) (sym (add-one i))
 
-  -- ---- the whole answer
-  module _ (out : List ℕ) where
-    abbrev Looks : Saved → List ℕ → Type 0
-    Looks r l = (r ≡ sized points out) × (l ≡ looks_after f points out (sized points out))
+  pub rows_none : (l : List ℕ) → l ≡ sets l 0 (rows_bytes row points 0)
+  unfolding rows_bytes
+  rows_none l = refl
 
-    pub looks_taken : {l : List ℕ} → length points % 24 ≡ 0 → 21 * (length points / 24) ≤ length out
-        → l ≡ sets out 0 (looked_bytes f points (length points / 24)) → Looks (Size (21 * (length points / 24))) l
-    unfolding sized looks_after
-    looks_taken e h p =
-        let n = length points / 24 in
-        let c = looked_count n in
-        rw (eq-eqb (length points % 24) 0 e, le-leb (21 * n) (length out) h)
-        (refl, stored out (looked_bytes f points n) (omega arith) p ∙ ap (λ (k : ℕ). looked_bytes f points n ++ drop k out) c)
+  pub read_point : {p : Point} (i m : ℕ) → m ≡ 24 → p ≡ point_at (take m (drop (24 * i) points)) 0 → p ≡ point_at points (24 * i)
+  read_point i m em e = e ∙ ap (λ (k : ℕ). point_at (take k (drop (24 * i) points)) 0) em ∙ part_point points (24 * i)
 
-    pub looks_short : length points % 24 ≡ 0 → length out < 21 * (length points / 24) → Looks (Refused 9) out
-    unfolding sized looks_after
-    looks_short e h = rw (eq-eqb (length points % 24) 0 e, lt-leb (21 * (length points / 24)) (length out) h) (refl, refl)
+  pub rows_turn : (w : ℕ) (l l1 : List ℕ) {l2 : List ℕ} (i : ℕ) {p : Point} → l1 ≡ sets l 0 (rows_bytes row points i) → length (rows_bytes row points i) ≡ w * i
+      → p ≡ point_at points (24 * i) → l2 ≡ sets l1 (w * i) (row p) → l2 ≡ sets l 0 (rows_bytes row points (i + 1))
+  rows_turn w l l1 i {p} e c ep q =
+      wrote l l1 0 (w * i) (rows_bytes row points i) (row (point_at points (24 * i)))
+      (q ∙ ap (λ (x : Point). sets l1 (w * i) (row x)) ep ∙ ap (λ (k : ℕ). sets l1 k (row (point_at points (24 * i)))) (let z : w * i ≡ 0 + w * i = omega arith in z))
+      e c
+      ∙ ap (sets l 0) (sym (ap (rows_bytes row points) (add-one i) ∙ rows_suc i))
 
-    pub looks_cut : (length points % 24 ≡ 0 → ⊥) → Looks (Refused 6) out
-    unfolding sized looks_after
-    looks_cut n = rw (ne_eqb (length points % 24) 0 n) (refl, refl)
+-- ---- the rows of all points, by their tests
+module _ (w : ℕ) (row : Point → List ℕ) (points out : List ℕ) where
+  pub rows_cut : (length points % 24 ≡ 0 → ⊥) → (Err BadLength ≡ rows_in w points out) × (out ≡ rows_after w row points out)
+  unfolding rows_in rows_after pass
+  rows_cut n = let a = ne_eqb (length points % 24) 0 n in (rw a, rw a)
 
--- ---- the tree that was tested
-pub loaded_grown : (held : List ℕ) (a : Answered) → a ≡ load_of held → a.refused ≡ 0 → grown_of a.trainer.tree ≡ true
-loaded_grown held a e z =
-    accepted_grown a.trainer (load_again held a.trainer (sym e ∙ (λ j. record { refused = z j; trainer = a.trainer }))).accepted
+  module _ (s : ℕ) (size : s ≡ w) (whole : length points % 24 ≡ 0) where
+    pub rows_short : length out < s * (length points / 24) → (Err ShortBuffer ≡ rows_in w points out) × (out ≡ rows_after w row points out)
+    unfolding rows_in rows_after pass
+    rows_short h =
+        let a = eq-eqb (length points % 24) 0 whole in
+        let b = lt-leb (w * (length points / 24)) (length out) (subst (λ (k : ℕ). length out < k * (length points / 24)) size h) in
+        (rw (a, b), rw (a, b))
 
--- what a lookup gives where its tests hold
-look_is : (t : RuleTree) (p : Point) → grown_of t ≡ true → found_in t p ≡ lookup_of t p
+    pub rows_taken : {l : List ℕ} → s * (length points / 24) ≤ length out → l ≡ sets out 0 (rows_bytes row points (length points / 24))
+        → (Ok (s * (length points / 24)) ≡ rows_in w points out) × (l ≡ rows_after w row points out)
+    unfolding rows_in rows_after pass
+    rows_taken h p =
+        let a = eq-eqb (length points % 24) 0 whole in
+        let b = le-leb (w * (length points / 24)) (length out) (subst (λ (k : ℕ). k * (length points / 24) ≤ length out) size h) in
+        (rw (a, b) (ap (λ (k : ℕ). Ok (k * (length points / 24))) size), rw (a, b) p)
+
+-- ---- what a lookup gives where its tests hold
+-- two rows that are the same at each point
+rows_same : (w : ℕ) (f g : Point → List ℕ) (points out : List ℕ) → ((p : Point) → f p ≡ g p) → rows_after w f points out ≡ rows_after w g points out
+rows_same w f g points out h j = rows_after w (λ p. h p j) points out
+
+look_is : (t : RuleTree) (p : Point) → grown_of t ≡ true → Ok (found_in t p) ≡ lookup_of t p
 unfolding lookup_of
 look_is t p g = rw g
 
+pub looked : (t : RuleTree) (points out : List ℕ) → grown_of t ≡ true
+    → rows_after 21 (λ p. found_bytes (Ok (found_in t p))) points out ≡ rows_after 21 (λ p. found_bytes (lookup_of t p)) points out
+looked t points out g =
+    rows_same 21 (λ p. found_bytes (Ok (found_in t p))) (λ p. found_bytes (lookup_of t p)) points out (λ p. ap found_bytes (look_is t p g))
+
 replaced_is : (t : RuleTree) (leaf : ℕ) (action : List ℕ) (p : Point) → grown_of t ≡ true → leaf_in t leaf ≡ true → valid_of (action_at action 0) ≡ true
-    → found_in (with_action t leaf (action_at action 0)) p ≡ replaced_look t leaf action p
+    → Ok (found_in (with_action t leaf (action_at action 0)) p) ≡ replaced_look t leaf action p
 unfolding replaced_of
 replaced_is t leaf action p g l v = rw (g, l, v)
 
--- two lookups that find the same
-looks_swap : (f g : Point → Looked) (points out : List ℕ) (s : Saved) → ((p : Point) → f p ≡ g p) → looks_after f points out s ≡ looks_after g points out s
-looks_swap f g points out s h j = looks_after (λ p. h p j) points out s
+pub replaced_found : (t : RuleTree) (leaf : ℕ) (action points out : List ℕ) → grown_of t ≡ true → leaf_in t leaf ≡ true → valid_of (action_at action 0) ≡ true
+    → rows_after 21 (λ p. found_bytes (Ok (found_in (with_action t leaf (action_at action 0)) p))) points out
+    ≡ rows_after 21 (λ p. found_bytes (replaced_look t leaf action p)) points out
+replaced_found t leaf action points out g l v =
+    rows_same 21 (λ p. found_bytes (Ok (found_in (with_action t leaf (action_at action 0)) p))) (λ p. found_bytes (replaced_look t leaf action p)) points out
+    (λ p. ap found_bytes (replaced_is t leaf action p g l v))
 
--- ---- lookup
-in_taken : (a : Answered) (f : Point → Looked) (points out : List ℕ) {r : Saved} {l : List ℕ} → a.refused ≡ 0 → Looks f points out r l
-    → (r ≡ lookups_in a points out) × (l ≡ looks_after f points out (lookups_in a points out))
-unfolding lookups_in
-in_taken a f points out e p = rw (eq-eqb a.refused 0 e) p
+pub replaced_taken : (t : RuleTree) (leaf : ℕ) (action points out : List ℕ) {other : Action} {u : RuleTree} {r : Result ℕ Refusal} {l : List ℕ}
+    → grown_of t ≡ true → leaf_in t leaf ≡ true → length action ≡ 20 → other ≡ action_at action 0 → valid_of other ≡ true → u ≡ with_action t leaf other
+    → (r ≡ rows_in 21 points out) × (l ≡ rows_after 21 (λ p. found_bytes (Ok (found_in u p))) points out)
+    → (r ≡ replaced_in t leaf action points out) × (l ≡ replaced_in_after t leaf action points out)
+unfolding replaced_in replaced_in_after pass
+replaced_taken t leaf action points out {other} g h e eo v eu p =
+    let w : valid_of (action_at action 0) ≡ true = ap valid_of (sym eo) ∙ v in
+    let a = eq-eqb (length action) 20 e in
+    let same = eu ∙ ap (with_action t leaf) eo in (
+      rw (h, a, w) p.0,
+      rw (h, a, w)
+          (p.1 ∙ ap (λ (z : RuleTree). rows_after 21 (λ p. found_bytes (Ok (found_in z p))) points out) same
+          ∙ replaced_found t leaf action points out g h w),
+    )
 
-in_refused : (a : Answered) (f : Point → Looked) (points out : List ℕ) → (a.refused ≡ 0 → ⊥)
-    → (Refused a.refused ≡ lookups_in a points out) × (out ≡ looks_after f points out (lookups_in a points out))
-unfolding lookups_in looks_after
-in_refused a f points out n = rw (ne_eqb a.refused 0 n) (refl, refl)
-
-module _ (held points out : List ℕ) (a : Answered) (loaded : a ≡ load_of held) where
-  looks_as : {r : Saved} {l : List ℕ}
-      → (r ≡ lookups_in a points out) × (l ≡ looks_after (λ p. lookup_of a.trainer.tree p) points out (lookups_in a points out))
-      → (r ≡ lookups held points out) × (l ≡ lookups_after held points out)
-  looks_as p = (
-    p.0 ∙ ap (λ (z : Answered). lookups_in z points out) loaded,
-    p.1 ∙ ap (λ (z : Answered). looks_after (λ p. lookup_of z.trainer.tree p) points out (lookups_in z points out)) loaded,
-  )
-
-  pub lookup_taken : {r : Saved} {l : List ℕ} → a.refused ≡ 0 → Looks (found_in a.trainer.tree) points out r l
-      → (r ≡ lookups held points out) × (l ≡ lookups_after held points out)
-  lookup_taken e p =
-      let t = a.trainer.tree in
-      looks_as
-      (in_taken a (λ p. lookup_of t p) points out e
-      (p.0, p.1 ∙ looks_swap (found_in t) (λ p. lookup_of t p) points out (sized points out) (λ p. look_is t p (loaded_grown held a loaded e))))
-
-  pub lookup_refused : (a.refused ≡ 0 → ⊥) → (Refused a.refused ≡ lookups held points out) × (out ≡ lookups_after held points out)
-  lookup_refused n = looks_as (in_refused a (λ p. lookup_of a.trainer.tree p) points out n)
-
--- ---- lookup with one leaf's action replaced
-module _ (t : RuleTree) (leaf : ℕ) (action points out : List ℕ) where
-  abbrev Replaced : Saved → List ℕ → Type 0
-  Replaced r l = (r ≡ replaced_for t leaf action points out) × (l ≡ looks_after (replaced_look t leaf action) points out (replaced_for t leaf action points out))
-
-  pub replaced_no_leaf : leaf_in t leaf ≡ false → Replaced (Refused 3) out
-  unfolding replaced_for looks_after
-  replaced_no_leaf h = rw h (refl, refl)
-
-  pub replaced_length : leaf_in t leaf ≡ true → (length action ≡ 20 → ⊥) → Replaced (Refused 6) out
-  unfolding replaced_for looks_after
-  replaced_length h n = rw (h, ne_eqb (length action) 20 n) (refl, refl)
-
-  module _ {x : Action} (read : x ≡ action_at action 0) where
-    pub replaced_invalid : leaf_in t leaf ≡ true → length action ≡ 20 → valid_of x ≡ false → Replaced (Refused 1) out
-    unfolding replaced_for looks_after
-    replaced_invalid h e v =
-        let w : valid_of (action_at action 0) ≡ false = ap valid_of (sym read) ∙ v in
-        rw (h, eq-eqb (length action) 20 e, w) (refl, refl)
-
-    pub changed_grown : {u : RuleTree} → grown_of t ≡ true → leaf_in t leaf ≡ true → valid_of x ≡ true → u ≡ with_action t leaf x → grown_of u ≡ true
-    changed_grown g h v e = ap grown_of e ∙ action_grown t leaf x g h v
-
-    sized_for : leaf_in t leaf ≡ true → length action ≡ 20 → valid_of x ≡ true → sized points out ≡ replaced_for t leaf action points out
-    unfolding replaced_for
-    sized_for h e v =
-        let w : valid_of (action_at action 0) ≡ true = ap valid_of (sym read) ∙ v in
-        rw (h, eq-eqb (length action) 20 e, w)
-
-    pub replaced_taken : {u : RuleTree} {r : Saved} {l : List ℕ} → grown_of t ≡ true → leaf_in t leaf ≡ true → length action ≡ 20 → valid_of x ≡ true
-        → u ≡ with_action t leaf x → Looks (found_in u) points out r l → Replaced r l
-    replaced_taken {u} g h e v eu p =
-        let s = sized_for h e v in
-        let same = eu ∙ ap (with_action t leaf) read in (
-          p.0 ∙ s,
-          p.1 ∙ ap (λ (z : RuleTree). looks_after (found_in z) points out (sized points out)) same
-              ∙ looks_swap (found_in (with_action t leaf (action_at action 0))) (replaced_look t leaf action) points out (sized points out)
-              (λ p. replaced_is t leaf action p g h (ap valid_of (sym read) ∙ v))
-              ∙ ap (looks_after (replaced_look t leaf action) points out) s,
-        )
-
-replaced_in_lem : (a : Answered) (leaf : ℕ) (action points out : List ℕ) {r : Saved} {l : List ℕ} → a.refused ≡ 0 → Replaced a.trainer.tree leaf action points out r l
-    → (r ≡ replaced_in a leaf action points out) × (l ≡ looks_after (replaced_look a.trainer.tree leaf action) points out (replaced_in a leaf action points out))
-unfolding replaced_in replaced_for
-replaced_in_lem a leaf action points out e p = rw (eq-eqb a.refused 0 e) p
-
-replaced_out : (a : Answered) (leaf : ℕ) (action points out : List ℕ) → (a.refused ≡ 0 → ⊥)
-    → (Refused a.refused ≡ replaced_in a leaf action points out)
-    × (out ≡ looks_after (replaced_look a.trainer.tree leaf action) points out (replaced_in a leaf action points out))
-unfolding replaced_in looks_after
-replaced_out a leaf action points out n = rw (ne_eqb a.refused 0 n) (refl, refl)
-
-module _ (held : List ℕ) (leaf : ℕ) (action points out : List ℕ) (a : Answered) (loaded : a ≡ load_of held) where
-  replaced_as : {r : Saved} {l : List ℕ}
-      → (r ≡ replaced_in a leaf action points out) × (l ≡ looks_after (replaced_look a.trainer.tree leaf action) points out (replaced_in a leaf action points out))
-      → (r ≡ replaced held leaf action points out) × (l ≡ replaced_after held leaf action points out)
-  replaced_as p = (
-    p.0 ∙ ap (λ (z : Answered). replaced_in z leaf action points out) loaded,
-    p.1 ∙ ap (λ (z : Answered). looks_after (replaced_look z.trainer.tree leaf action) points out (replaced_in z leaf action points out)) loaded,
-  )
-
-  pub call_taken : {r : Saved} {l : List ℕ} → a.refused ≡ 0 → Replaced a.trainer.tree leaf action points out r l
-      → (r ≡ replaced held leaf action points out) × (l ≡ replaced_after held leaf action points out)
-  call_taken e p = replaced_as (replaced_in_lem a leaf action points out e p)
-
-  pub call_refused : (a.refused ≡ 0 → ⊥) → (Refused a.refused ≡ replaced held leaf action points out) × (out ≡ replaced_after held leaf action points out)
-  call_refused n = replaced_as (replaced_out a leaf action points out n)
+-- ---- lookup over a record
+pub lookup_taken : (held points out : List ℕ) {a : Result Trainer Refusal} {t : Trainer} {r : Result ℕ Refusal} {l : List ℕ} → a ≡ load_of held → a ≡ Ok t
+    → (r ≡ rows_in 21 points out) × (l ≡ rows_after 21 (λ p. found_bytes (Ok (found_in t.tree p))) points out)
+    → (r ≡ lookups held points out) × (l ≡ lookups_after held points out)
+lookup_taken held points out {t = t} e z p =
+    let q : load_of held ≡ Ok t = sym e ∙ z in
+    rw q (p.0, p.1 ∙ looked t.tree points out (loaded_grown held t e z))

@@ -9,7 +9,10 @@ use native.Mathlib.Omega.{arith}
 use borrow.Author.Tests.{ltb-true}
 use lib.Dec.{eqb, ltb, leb}
 use lib.ListN.{length}
-use Rattle.refusal.specs.Guards.{test, guarded}
+use Rattle.std.specs.Prelude.{Result, Ok, Err}
+use Rattle.refusal.specs.declared.Refusal.{Refusal}
+use Rattle.refusal.specs.declared.Refusal.TheVariants.{NoLeaf, NoSplit, ShortBuffer}
+use Rattle.refusal.specs.Guards.{check, checked, and_then}
 use Rattle.remy.specs.declared.point.Point.{Point}
 use Rattle.remy.specs.Cube.{point_equal}
 use Rattle.rule_tree.specs.declared.Node.{Node}
@@ -22,14 +25,11 @@ use Rattle.rule_tree.proofs.GrownTree.{leaf_childless, leaf_from}
 use Rattle.rule_tree.proofs.Undoing.{newest_children, undo_other, undo_splits, undo_ends, undo_grown}
 use Rattle.rule_tree_laws.proofs.Undone.{undo_fits}
 use Rattle.trainer.specs.declared.Trainer.{Trainer}
-use Rattle.trainer.specs.declared.Answered.{Answered}
 use Rattle.trainer.specs.Settings.{settings_hold}
 use Rattle.trainer.specs.Candidates.{candidates_of}
 use Rattle.trainer.specs.State.{splitting, tuning, ending, idle, untried, kept_holds, leaf_holds, try_holds_of, box_holds, phase_holds, accepted_of}
-use Rattle.trainer.specs.Phases.{taken}
 use Rattle.trainer.proofs.AcceptWays.{phase_is, accepted_all}
 use Rattle.trainer.proofs.AcceptedFacts.{accepted_settings, accepted_box, accepted_phase}
-use Rattle.record.specs.declared.Saved.TheVariants.{Size, Refused}
 use Rattle.record.specs.Write.{record_of}
 use Rattle.record.specs.Calls.{save_of, load_of}
 use Rattle.wire.proofs.Bytes.{never}
@@ -37,8 +37,9 @@ use Rattle.record.proofs.RoundTrip.{TrainerFits}
 use Rattle.record.proofs.NumbersAgain.{Bytes}
 use Rattle.record.proofs.BytesFit.{loaded_fits}
 use Rattle.record.proofs.Loading.{accepted_grown, load_again, load_saved}
-use Rattle.host_trainer.specs.Records.{on_trainer, written_of}
+use Rattle.host_trainer.specs.Records.{written_of}
 use Rattle.host_trainer.specs.Undone.{with_tree, leaf_stays, undone_trainer, undone_in}
+use Rattle.host_trainer.proofs.Runs.{save_sized}
 
 -- ---- of the tree a state looks at the trainer's leaf alone, and only in phases 4 and 5
 -- a state's test by those of its phase; leaf and node stand for whether the trainer's leaf is one, and for its node
@@ -142,27 +143,22 @@ module _ (t : Trainer) (f : TrainerFits t) (a : accepted_of t ≡ true) (s : 0 <
       }
 
   -- what is written loads as the trainer with the newest split taken back
-  pub undone_loads : load_of (record_of (left t)) ≡ taken (left t)
+  pub undone_loads : load_of (record_of (left t)) ≡ Ok (left t)
   undone_loads = load_saved (left t) undone_fits undone_accepted
 
 -- ---- the call: 6, 7, 8 of the record; then 24, 3, 9
-save_sized : (t : Trainer) (out : List ℕ) → accepted_of t ≡ true
-    → save_of t out ≡ cond (leb (length (record_of t)) (length out)) (Size (length (record_of t))) (Refused 9)
-unfolding save_of
-save_sized t out a = rw a
-
-module _ (held out : List ℕ) (t : Trainer) (bytes : Bytes held) (loaded : load_of held ≡ taken t) where
+module _ (held out : List ℕ) (t : Trainer) (bytes : Bytes held) (loaded : load_of held ≡ Ok t) where
   pub undo_order_lem :
       written_of (undone_in held) out
-      ≡ guarded (test (ltb 0 t.tree.splits) 24 ∷ test (leaf_stays t) 3 ∷ test (leb (length (record_of (left t))) (length out)) 9 ∷ []) Refused (Size (length (record_of (left t))))
-  unfolding undone_in on_trainer written_of undone_trainer
-  undo_order_lem = ap (λ (z : Answered). written_of (on_trainer z undone_trainer) out) loaded ∙ by (ltb 0 t.tree.splits) refl (leaf_stays t) refl
+      ≡ checked (check (ltb 0 t.tree.splits) NoSplit ∷ check (leaf_stays t) NoLeaf ∷ check (leb (length (record_of (left t))) (length out)) ShortBuffer ∷ []) (Ok (length (record_of (left t))))
+  unfolding undone_in written_of undone_trainer
+  undo_order_lem = ap (λ (z : Result Trainer Refusal). written_of (and_then z undone_trainer) out) loaded ∙ by (ltb 0 t.tree.splits) refl (leaf_stays t) refl
     where
       a : accepted_of t ≡ true
       a = (load_again held t loaded).accepted
 
       by : (x : Bool) → ltb 0 t.tree.splits ≡ x → (y : Bool) → leaf_stays t ≡ y
-          → written_of (undone_trainer t) out ≡ cond x (cond y (cond (leb (length (record_of (left t))) (length out)) (Size (length (record_of (left t)))) (Refused 9)) (Refused 3)) (Refused 24)
+          → written_of (undone_trainer t) out ≡ cond x (cond y (cond (leb (length (record_of (left t))) (length out)) (Ok (length (record_of (left t)))) (Err ShortBuffer)) (Err NoLeaf)) (Err NoSplit)
       by true p true q = rw (accepted_grown t a, p, q) (save_sized (left t) out (undone_accepted t (loaded_fits held t bytes loaded) a (ltb-true 0 t.tree.splits p) q))
       by true p false q = rw (accepted_grown t a, p, q)
       by false p y q = rw (accepted_grown t a, p)

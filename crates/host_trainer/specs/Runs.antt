@@ -1,18 +1,15 @@
 -- What a host that keeps a record sees of a list of answers, and what a program that keeps the trainer itself sees.
-use Rattle.std.specs.Prelude.{cond, List, [], ◌∷◌, ℕ, length, take, eqb, leb}
+use Rattle.std.specs.Prelude.{List, [], ◌∷◌, ℕ, length, take, leb, Option, Some, None, Result, Ok, Err}
 use Rattle.std.specs.Float.{binary64}
 use Rattle.std.specs.Float.Ieee.{of_bits}
-use Rattle.refusal.specs.Numbers.{short_buffer}
+use Rattle.refusal.specs.declared.Refusal.{Refusal}
+use Rattle.refusal.specs.declared.Refusal.TheVariants.{ShortBuffer}
+use Rattle.refusal.specs.Guards.{check, checked, and_then}
 use Rattle.trainer.specs.declared.Trainer.{Trainer}
-use Rattle.trainer.specs.declared.Answered.{Answered}
-use Rattle.trainer.specs.Phases.{refuse}
-use Rattle.trainer.specs.Calls.{question_of, answer_counts_of, answer_score_of}
-use Rattle.record.specs.declared.Saved.{Saved}
-use Rattle.record.specs.declared.Saved.TheVariants.{Size, Refused}
+use Rattle.trainer.specs.Calls.{answer_counts_of, answer_score_of}
 use Rattle.record.specs.Write.{record_of}
 use Rattle.host_trainer.specs.Records.{counts_in, counts_answered, score_answered, written_of, record_after}
-use Rattle.host_trainer.specs.Questions.{fitted, asked_in_of, asked_after}
-use Rattle.host_trainer.specs.Parts.{question_put}
+use Rattle.host_trainer.specs.Questions.{question_in, question_after, asked_in_of, asked_after}
 
 -- counts in bytes, or a score by its bits
 pub data Answer : Type 0 where
@@ -25,26 +22,26 @@ pub record Call : Type 0 where
   pub out : List ℕ
   pub asks : List ℕ
 
--- the refusal's number or 0, what the question answers, and its buffer
+-- the refusal if there is one, what the question answers, and its buffer
 pub record Seen : Type 0 where
-  pub refused : ℕ
-  pub asked : Saved
+  pub refused : Option Refusal
+  pub asked : Result ℕ Refusal
   pub bytes : List ℕ
 
+abbrev pub refusal_in : {A : Type 0} → Result A Refusal → Option Refusal
+refusal_in (Ok x) = None
+refusal_in (Err r) = Some r
+
 -- ---- a host keeps the bytes that a call wrote, and after a refusal those that it held
-unfoldable pub host_answer : List ℕ → Answer → Answered
+unfoldable pub host_answer : List ℕ → Answer → Result Trainer Refusal
 host_answer held (counts xs) = counts_answered held xs
 host_answer held (score bits) = score_answered held bits
 
-unfoldable pub number_of : Saved → ℕ
-number_of (Size n) = 0
-number_of (Refused k) = k
+abbrev pub held_after : List ℕ → Result ℕ Refusal → List ℕ → List ℕ
+held_after held (Ok n) out = take n out
+held_after held (Err r) out = held
 
-unfoldable pub held_after : List ℕ → Saved → List ℕ → List ℕ
-held_after held (Size n) out = take n out
-held_after held (Refused k) out = held
-
-abbrev pub host_saved : List ℕ → Call → Saved
+abbrev pub host_saved : List ℕ → Call → Result ℕ Refusal
 host_saved held c = written_of (host_answer held c.answer) c.out
 
 abbrev pub host_next : List ℕ → Call → List ℕ
@@ -53,34 +50,43 @@ host_next held c = held_after held (host_saved held c) (record_after (host_answe
 abbrev pub host_sees : List ℕ → Call → Seen
 host_sees held c =
     record {
-      refused = number_of (host_saved held c);
+      refused = refusal_in (host_saved held c);
       asked = asked_in_of (host_next held c) c.asks;
       bytes = asked_after (host_next held c) c.asks;
     }
 
 unfoldable pub host_run : List ℕ → List Call → List Seen
-unfolding host_answer number_of held_after
+unfolding host_answer
 host_run held [] = []
 host_run held (c ∷ cs) = host_sees held c ∷ host_run (host_next held c) cs
 
 -- ---- a program keeps the trainer that a call returned, and after a refusal the one that it had; 9 is due where the record doesn't fit
-unfoldable pub value_answer : Trainer → Answer → Answered
+unfoldable pub value_answer : Trainer → Answer → Result Trainer Refusal
 value_answer t (counts xs) = answer_counts_of t (counts_in xs)
 value_answer t (score bits) = answer_score_of t (of_bits binary64 bits)
 
-unfoldable pub value_taken : Trainer → Answered → List ℕ → Answered
-value_taken t a out =
-    cond (eqb a.refused 0) (cond (leb (length (record_of a.trainer)) (length out)) a (refuse short_buffer t)) (refuse a.refused t)
+abbrev pub fitting : List ℕ → Trainer → Result Trainer Refusal
+fitting out t = checked (check (leb (length (record_of t)) (length out)) ShortBuffer ∷ []) (Ok t)
 
-abbrev pub value_call : Trainer → Call → Answered
-value_call t c = value_taken t (value_answer t c.answer) c.out
+abbrev pub value_call : Trainer → Call → Result Trainer Refusal
+value_call t c = and_then (value_answer t c.answer) (fitting c.out)
+
+abbrev pub kept_after : Trainer → Result Trainer Refusal → Trainer
+kept_after t (Ok u) = u
+kept_after t (Err r) = t
+
+abbrev pub value_next : Trainer → Call → Trainer
+value_next t c = kept_after t (value_call t c)
 
 abbrev pub value_sees : Trainer → Call → Seen
 value_sees t c =
-    let q = question_of (value_call t c).trainer in
-    record { refused = (value_call t c).refused; asked = fitted q c.asks; bytes = question_put q c.asks (fitted q c.asks) }
+    record {
+      refused = refusal_in (value_call t c);
+      asked = question_in (value_next t c) c.asks;
+      bytes = question_after (value_next t c) c.asks;
+    }
 
 unfoldable pub value_run : Trainer → List Call → List Seen
-unfolding value_answer value_taken
+unfolding value_answer
 value_run t [] = []
-value_run t (c ∷ cs) = value_sees t c ∷ value_run (value_call t c).trainer cs
+value_run t (c ∷ cs) = value_sees t c ∷ value_run (value_next t c) cs

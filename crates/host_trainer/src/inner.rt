@@ -3,4 +3,5 @@ pub mod change;
 pub mod lookups;
 pub mod questions;
 pub mod records;
+pub mod rows;
 pub mod undo;

@@ -7,7 +7,6 @@ ghost use Rattle.small_trees.specs.Calls.{next_of};
 ghost use Rattle.host_trees.specs.Lists.{list_at_of, list_whole, list_bytes, answered_in, answered_after, next_list_in, next_list_after};
 ghost use Rattle.host_trees.specs.Rows.{even_row_in};
 
-use record::Saved;
 use refusal::Refusal;
 use small_trees::SplitList;
 use wire::inner::{read, write};
@@ -21,7 +20,7 @@ fn whole(list: &[u8]) -> bool
     list.len() == 1 + 2 * n
 }
 
-// What comes after the list that stands in the bytes.
+// What comes after the list that stands in the bytes. A longer list than three nodes is none, so three are read: no more are held.
 #[tactic(auto, using(crate::proofs::Lists::long_list, crate::proofs::Lists::nodes_read))]
 fn after_in(n: u32, list: &[u8]) -> Result<Option<SplitList>, Refusal>
     ensures { result ≡ next_of n (list_at_of list.now) }
@@ -38,55 +37,51 @@ fn after_in(n: u32, list: &[u8]) -> Result<Option<SplitList>, Refusal>
     small_trees::next(n, &nodes[..k])
 }
 
-#[tactic(auto, using(crate::proofs::Lists::none_put, crate::proofs::Lists::put_more, crate::proofs::Lists::all_put))]
+#[tactic(auto, using(crate::proofs::Lists::list_written))]
 fn put_list(out: &mut [u8], list: &[u16])
-    requires { (length list.now ≤ 3) × (1 + 2 * length list.now ≤ length out.old) }
+    requires { 1 + 2 * length list.now ≤ length out.old }
     ensures { out.new ≡ sets out.old 0 (list_bytes list.now) }
 {
     write::put(out, 0, 1, list.len() as u64);
-    for (i, node) in list.iter().enumerate() {
-        write::put(out, 1 + 2 * i, 2, *node as u64);
-    }
+    write::put_list(out, 1, list);
 }
 
-// The answer of the call, and the list written where there is one.
+// The list written where there is one, and its size; of none no byte.
 #[tactic(auto, unfolding(crate::specs::Lists::answered_in, crate::specs::Lists::answered_after))]
-fn answered(a: Result<Option<SplitList>, Refusal>, out: &mut [u8]) -> Saved
-    ensures { (result ≡ answered_in a out.old) × (out.new ≡ answered_after a out.old) }
+fn answered(next: Option<SplitList>, out: &mut [u8]) -> Result<usize, Refusal>
+    ensures { (result ≡ answered_in next out.old) × (out.new ≡ answered_after next out.old) }
 {
-    match a {
-        Ok(Some(list)) => {
-            let size = 1 + 2 * list.as_slice().len();
-            if size <= out.len() {
-                put_list(out, list.as_slice());
-                return Saved::Size(size);
-            }
-            Saved::Refused(Refusal::ShortBuffer.number())
-        }
-        Ok(None) => Saved::Size(0),
-        Err(refusal) => Saved::Refused(refusal.number()),
+    let Some(list) = next else {
+        return Ok(0);
+    };
+    let size = 1 + 2 * list.as_slice().len();
+    if size > out.len() {
+        return Err(Refusal::ShortBuffer);
     }
+    put_list(out, list.as_slice());
+    Ok(size)
 }
 
 // The split list after another among those of at most n splits, written as it is read: a length byte, then each node in two.
 #[tactic(auto, unfolding(crate::specs::Lists::next_list_in, crate::specs::Lists::next_list_after))]
-pub fn next_list(n: u32, list: &[u8], out: &mut [u8]) -> Saved
+pub fn next_list(n: u32, list: &[u8], out: &mut [u8]) -> Result<usize, Refusal>
     ensures { (result ≡ next_list_in n list.now out.old) × (out.new ≡ next_list_after n list.now out.old) }
 {
-    if whole(list) {
-        return answered(after_in(n, list), out);
+    if !whole(list) {
+        return Err(Refusal::BadLength);
     }
-    Saved::Refused(Refusal::BadLength.number())
+    let next = after_in(n, list)?;
+    answered(next, out)
 }
 
-// The row of the even tree that holds the point; 64 where none does.
+// The row of the even tree that holds the point; 64 where none does, as the C interface has it.
 #[tactic(auto, unfolding(crate::specs::Rows::even_row_in))]
-pub fn even_row(point: &[u8]) -> Saved
+pub fn even_row(point: &[u8]) -> Result<usize, Refusal>
     ensures { result ≡ even_row_in point.now }
 {
-    if point.len() == 24 {
-        let row = even::row_toward(read::point_at(point, 0));
-        return Saved::Size(row.unwrap_or(64) as usize);
+    if point.len() != 24 {
+        return Err(Refusal::BadLength);
     }
-    Saved::Refused(Refusal::BadLength.number())
+    let row = even::row_toward(read::point_at(point, 0));
+    Ok(row.unwrap_or(64) as usize)
 }

@@ -1,12 +1,16 @@
-// The tuning of one leaf, score by score, on a small state; no tree is touched.
+// The tuning of one leaf, score by score, on a small state; no tree is touched. The trainer's own steps give a trainer each, with its tree of
+// 12 KB: so a list of many scores takes these, and one trainer is built at its end.
 ghost use Rattle.std.specs.Prelude.{◌≡◌};
-ghost use Rattle.host_answers.specs.Parts.{begun_with, noted_of, last_of, tried_of, step_of, Tuning, Among};
+ghost use Rattle.host_answers.specs.Parts.{begin_of, last_of, tried_of, step_of, Tuning, Among};
 
 use remy::action::Action;
-use trainer::inner::{axes, leaf, scoring};
+use trainer::inner::kept::{NONE, kept_of};
+use trainer::inner::list::Candidates;
+use trainer::inner::scoring;
 use trainer::settings::Settings;
 
-// A leaf's present action, and what a trainer has of it in phase 5. With a count of 0 the leaf is finished.
+// A leaf's present action, and a trainer's fields of its tuning in phase 5: so what is kept is a number, which `kept_of` reads.
+// No enum for a leaf that is finished: an action without candidates has the count 0 by itself, and finishes the leaf as well.
 #[derive(Clone, Copy)]
 pub struct Tuned {
     pub action: Action,
@@ -17,18 +21,11 @@ pub struct Tuned {
     pub count: u32,
 }
 
-// The candidate that is kept, with its score.
-#[derive(Clone, Copy)]
-struct Kept {
-    kept: u16,
-    score: f64,
-}
-
-// An action whose candidates, count of them, are tried from the first on. It is copied field by field: so the loop over scores
-// keeps it in registers.
-pub fn begun(a: Action, best: f64, count: u32) -> Tuned
-    ensures { result ≡ begun_with a best count }
+// An action whose candidates are tried from the first on. It is copied field by field: so the loop over scores keeps it in registers.
+pub fn begun(list: Candidates<'_>, best: f64) -> Tuned
+    ensures { result ≡ begin_of list.entry.settings.now list.entry.action best }
 {
+    let a = list.action;
     let delay = a.intersend_delay;
     let action = Action {
         window_multiplier: a.window_multiplier,
@@ -39,74 +36,72 @@ pub fn begun(a: Action, best: f64, count: u32) -> Tuned
         action,
         best,
         k: 0,
-        kept: 65535,
+        kept: NONE,
         score: 0.0,
-        count,
+        count: list.len(),
     }
 }
 
-// After the last candidate: the one kept becomes the action, or the leaf is finished.
-fn adopted(s: Settings, u: Tuned, kept: u16, score: f64) -> Tuned
-    requires { (Tuning s u) × (Among u kept) }
-    ensures { result ≡ last_of s u kept score }
-{
-    let a = u.action;
-    if kept == 65535 {
-        return Tuned {
-            action: a,
-            best: u.best,
-            k: u.k,
-            kept,
-            score,
-            count: 0,
+// A small state whose candidate k has a score now, by the settings that list its action's candidates.
+#[derive(Clone, Copy)]
+pub struct Step<'a> {
+    pub settings: &'a Settings,
+    pub from: Tuned,
+    ghost tuning: { Tuning settings.now from },
+    ghost among: { Among from from.kept },
+}
+
+impl<'a> Step<'a> {
+    // After the last candidate: the one kept becomes the action, or the leaf is finished.
+    fn adopted(self, kept: u16, score: f64) -> Tuned
+        requires { Among self.from kept }
+        ensures { result ≡ last_of self.entry.settings.now self.entry.from kept score }
+    {
+        let Some(k) = kept_of(kept) else {
+            return Tuned {
+                kept,
+                score,
+                count: 0,
+                ..self.from
+            };
         };
-    }
-    let c = leaf::candidate(s, a, kept);
-    let count = axes::count_in(s, c);
-    begun(c, score, count)
-}
-
-// The next candidate, with what is kept so far.
-fn tried(s: Settings, u: Tuned, kept: u16, score: f64) -> Tuned
-    requires { (Tuning s u) × (Among u kept) }
-    ensures { result ≡ tried_of s u kept score }
-{
-    let k = u.k + 1;
-    if (k as u32) < u.count {
-        let a = u.action;
-        return Tuned {
-            action: a,
-            best: u.best,
-            k,
-            kept,
-            score,
-            count: u.count,
+        let list = Candidates {
+            settings: self.settings,
+            action: self.from.action,
         };
-    }
-    adopted(s, u, kept, score)
-}
-
-// What is kept after the score of candidate k.
-fn noted(u: Tuned, x: f64) -> Kept
-    ensures { result ≡ noted_of u x }
-{
-    if scoring::keeps(u.best, u.kept, u.score, x) {
-        return Kept {
-            kept: u.k,
-            score: x,
+        let next = Candidates {
+            settings: self.settings,
+            action: list.at(k),
         };
+        begun(next, score)
     }
-    Kept {
-        kept: u.kept,
-        score: u.score,
-    }
-}
 
-// The score of candidate k.
-pub fn stepped(s: Settings, u: Tuned, x: f64) -> Tuned
-    requires { (Tuning s u) × (Among u u.kept) }
-    ensures { result ≡ step_of s u x }
-{
-    let n = noted(u, x);
-    tried(s, u, n.kept, n.score)
+    // The next candidate, with what is kept so far.
+    fn tried(self, kept: u16, score: f64) -> Tuned
+        requires { Among self.from kept }
+        ensures { result ≡ tried_of self.entry.settings.now self.entry.from kept score }
+    {
+        let k = self.from.k + 1;
+        if u32::from(k) < self.from.count {
+            return Tuned {
+                k,
+                kept,
+                score,
+                ..self.from
+            };
+        }
+        self.adopted(kept, score)
+    }
+
+    // The score of candidate k.
+    pub fn scored(self, x: f64) -> Tuned
+        ensures { result ≡ step_of self.entry.settings.now self.entry.from x }
+    {
+        let u = self.from;
+        if scoring::keeps(u.best, u.kept, u.score, x) {
+            self.tried(u.k, x)
+        } else {
+            self.tried(u.kept, u.score)
+        }
+    }
 }

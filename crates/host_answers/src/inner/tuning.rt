@@ -1,115 +1,116 @@
 // The scores of a group: taken on the small state, and one trainer is built at the end.
-ghost use Rattle.std.specs.Prelude.{◌≡◌, ◌*◌, ◌≤◌, ◌<◌, length};
-ghost use Rattle.trainer.specs.Phases.{taken};
+ghost use Rattle.std.specs.Prelude.{◌≡◌, Some, Ok, ◌*◌, ◌/◌, ◌≤◌, ◌<◌, length};
+ghost use Rattle.rule_tree.specs.Nodes.{slots};
+ghost use Rattle.trainer.specs.Phase.{phase_of};
 ghost use Rattle.host_answers.specs.Answers.{scores_on};
-ghost use Rattle.host_answers.specs.Parts.{tuned_of, trainer_of, AtLeaf, Counted, Ready};
+ghost use Rattle.host_answers.specs.Parts.{tuned_of, trainer_of, Counted, Ready};
 
 use crate::inner::steps;
-use crate::inner::steps::Tuned;
+use crate::inner::steps::{Step, Tuned};
+use refusal::Refusal;
 use rule_tree::inner::change;
-use trainer::inner::{axes, begin, leaf};
-use trainer::{Answered, Trainer};
+use trainer::Trainer;
+use trainer::inner::begin::Place;
+use trainer::inner::leaf::AtLeaf;
+use trainer::phase::Phase;
 use wire::inner::read;
 
 // The small state of a trainer in phase 5.
-fn tuned_of(t: Trainer) -> Tuned
-    requires { AtLeaf t }
-    ensures { result ≡ tuned_of t }
+fn tuned_of(at: AtLeaf<'_>) -> Tuned
+    ensures { result ≡ tuned_of at.entry.trainer.now }
 {
-    let s = t.settings;
-    let tree = t.tree;
-    let a = leaf::action_at(tree, t.leaf);
-    let count = axes::count_in(s, a);
+    let t = at.trainer;
+    let list = at.candidates();
     Tuned {
-        action: a,
+        action: list.action,
         best: t.best,
         k: t.k,
         kept: t.kept,
         score: t.kept_score,
-        count,
+        count: list.len(),
     }
 }
 
 // The trainer that a small state stands for.
-fn built(t: Trainer, u: Tuned) -> Trainer
-    requires { t.leaf < 513 }
-    ensures { result ≡ trainer_of t u }
+fn built(t: &Trainer, u: Tuned) -> Trainer
+    requires { t.now.leaf < slots }
+    ensures { result ≡ trainer_of t.now u }
 {
-    let s = t.settings;
-    let old = t.tree;
-    let a = u.action;
-    let tree = change::with_action(old, t.leaf, a);
+    let tree = change::with_action(t.tree, t.leaf, u.action);
     if u.count == 0 {
-        let marked = change::with_mark(tree, t.leaf);
-        return begin::stand_at(s, marked, 3, t.stage, t.round);
-    }
-    begin::try_candidate(
-        s, tree, t.stage, t.round, t.leaf, u.best, u.k, u.kept, u.score,
-    )
-}
-
-// The scores from place from on; those before it gave the small state.
-fn tune(t: Trainer, first: Tuned, scores: &[u8], from: usize, n: usize) -> Answered
-    requires { (Ready t) × (t.leaf < 513) × (from ≤ n) × (8 * n ≤ length scores.now) × (Counted t.settings first) × (scores_on t scores.now from ≡ taken (trainer_of t first)) }
-    ensures { result ≡ scores_on t scores.now n }
-{
-    let s = t.settings;
-    let mut u = first;
-    let mut i = from;
-    while i < n {
-        if u.count == 0 {
-            let trainer = built(t, u);
-            return Answered {
-                refused: refusal::NOT_ASKED,
-                trainer,
-            };
-        }
-        let at = 8 * i;
-        let to = at + 8;
-        let x = read::float_at(&scores[at..to], 0);
-        u = steps::stepped(s, u, x);
-        i += 1;
-    }
-    let trainer = built(t, u);
-    Answered {
-        refused: 0,
-        trainer,
-    }
-}
-
-// Phase 4: the first score is that of the leaf's own action.
-fn tune_own(t: Trainer, scores: &[u8], n: usize) -> Answered
-    requires { (Ready t) × (t.phase ≡ 4) × (1 ≤ n) × (8 * n ≤ length scores.now) }
-    ensures { result ≡ scores_on t scores.now n }
-{
-    let s = t.settings;
-    let tree = t.tree;
-    let a = leaf::action_at(tree, t.leaf);
-    let x = read::float_at(scores, 0);
-    let count = axes::count_in(s, a);
-    let u = steps::begun(a, x, count);
-    tune(t, u, scores, 1, n)
-}
-
-pub fn scores_on(t: Trainer, scores: &[u8], n: usize) -> Answered
-    requires { (Ready t) × (8 * n ≤ length scores.now) }
-    ensures { result ≡ scores_on t scores.now n }
-{
-    if n == 0 {
-        return Answered {
-            refused: 0,
-            trainer: t,
+        let place = Place {
+            tree: change::with_mark(tree, t.leaf),
+            ..Place::of(t)
         };
+        return place.stand_at(Phase::Choose);
     }
-    if t.phase == 4 {
-        return tune_own(t, scores, n);
+    Trainer {
+        tree,
+        phase: Phase::Try.number(),
+        best: u.best,
+        k: u.k,
+        kept: u.kept,
+        kept_score: u.score,
+        ..*t
     }
-    if t.phase == 5 {
-        let u = tuned_of(t);
-        return tune(t, u, scores, 0, n);
+}
+
+// A trainer that was loaded: accepted, over a tree of as many slots as every tree of the code has.
+#[derive(Clone, Copy)]
+pub struct Loaded<'a> {
+    pub trainer: &'a Trainer,
+    ghost ready: { Ready trainer.now },
+}
+
+impl<'a> Loaded<'a> {
+    // The scores from place from on; those before it gave the small state.
+    fn tune(self, first: Tuned, scores: &[u8], from: usize) -> Result<Trainer, Refusal>
+        requires leaf { self.trainer.now.leaf < slots }
+        requires from { from ≤ length scores.now / 8 }
+        requires counted { Counted self.trainer.now.settings first }
+        requires before { scores_on self.trainer.now scores.now from ≡ Ok (trainer_of self.trainer.now first) }
+        ensures { result ≡ scores_on self.entry.trainer.now scores.now (length scores.now / 8) }
+    {
+        let settings = &self.trainer.settings;
+        let mut u = first;
+        for i in from..scores.len() / 8 {
+            if u.count == 0 {
+                return Err(Refusal::NotAsked);
+            }
+            let x = read::float_at(&scores[8 * i..8 * i + 8], 0);
+            u = Step { settings, from: u }.scored(x);
+        }
+        Ok(built(self.trainer, u))
     }
-    Answered {
-        refused: refusal::NOT_ASKED,
-        trainer: t,
+
+    // A score at least. In phase 4 the first is that of the leaf's own action.
+    fn scores_in(self, phase: Phase, scores: &[u8]) -> Result<Trainer, Refusal>
+        requires named { phase_of self.trainer.now.phase ≡ Some phase }
+        requires some { 8 ≤ length scores.now }
+        ensures { result ≡ scores_on self.entry.trainer.now scores.now (length scores.now / 8) }
+    {
+        let trainer = self.trainer;
+        match phase {
+            Phase::Own => {
+                let at = AtLeaf { trainer };
+                let first = steps::begun(at.candidates(), read::float_at(scores, 0));
+                self.tune(first, scores, 1)
+            }
+            Phase::Try => self.tune(tuned_of(AtLeaf { trainer }), scores, 0),
+            _ => Err(Refusal::NotAsked),
+        }
+    }
+
+    // All the scores that the bytes hold.
+    pub fn scores_on(self, scores: &[u8]) -> Result<Trainer, Refusal>
+        ensures { result ≡ scores_on self.entry.trainer.now scores.now (length scores.now / 8) }
+    {
+        if scores.len() < 8 {
+            return Ok(*self.trainer);
+        }
+        match Phase::of(self.trainer.phase) {
+            Some(phase) => self.scores_in(phase, scores),
+            None => Err(Refusal::NotAsked),
+        }
     }
 }

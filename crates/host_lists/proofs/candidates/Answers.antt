@@ -1,20 +1,17 @@
--- `host_lists::candidates` meets its contract. Assumes nothing.
-use Rattle.host_lists.proofs.Calls as law
-use Rattle.rule_tree.proofs.Ways.{was_true, was_false}
+-- `host_lists::candidates` tests the settings, then the action. Assumes nothing.
+use Rattle.std.proofs.Common.{sym, ◌∙◌, arith}
+use Rattle.std.proofs.lemmas.Grind.{common_steps}
+use Rattle.host_lists.proofs.CandidateCalls as law
 use Rattle.host_lists.proofs.candidates.Goals as goal
 
-pub returns-then-hold : goal.returns-then-hold
-returns-then-hold c =
-    law.candidates_taken c.args.settings.now c.args.action.now c.args.out.now c.if-settings-eq137.true c.byte_at.ensures c.if-byte_at-le1.true c.settings_in-s.ensures
-    (was_true c.hold.ensures c.if-hold.true) c.candidates_with.ensures
+pub returns-in_err-s : goal.returns-in_err-s
+returns-in_err-s c = law.candidates_unread c.args.settings.now c.args.action.now c.args.out.now c.settings_of.ensures c.in_err-s.was (grind (arith, common_steps))
 
-pub returns-else-hold : goal.returns-else-hold
-returns-else-hold c =
-    law.candidates_bad c.args.settings.now c.args.action.now c.args.out.now c.if-settings-eq137.true c.byte_at.ensures c.if-byte_at-le1.true c.settings_in-s.ensures
-    (was_false c.hold.ensures c.if-hold.false)
+pub returns-then-not-hold : goal.returns-then-not-hold
+returns-then-not-hold c =
+    law.candidates_bad c.args.settings.now c.args.action.now c.args.out.now c.settings_of.ensures c.in_ok-s.was (sym c.hold.ensures ∙ c.if-not-hold.true)
 
-pub returns-else-byte_at-le1 : goal.returns-else-byte_at-le1
-returns-else-byte_at-le1 c = law.candidates_drill c.args.settings.now c.args.action.now c.args.out.now c.if-settings-eq137.true c.byte_at.ensures c.if-byte_at-le1.false
-
-pub returns-else-settings-eq137 : goal.returns-else-settings-eq137
-returns-else-settings-eq137 c = law.candidates_length c.args.settings.now c.args.action.now c.args.out.now c.if-settings-eq137.false
+pub returns : goal.returns
+returns c =
+    law.candidates_taken c.args.settings.now c.args.action.now c.args.out.now c.settings_of.ensures c.in_ok-s.was (sym c.hold.ensures ∙ c.if-not-hold.false)
+    c.candidates_with.ensures

@@ -1,148 +1,171 @@
 // Actions written one after the other, 20 bytes each.
-ghost use Rattle.std.specs.Prelude.{◌≡◌, true, ◌+◌, ◌*◌, ◌<◌, ◌≤◌, length, drop, get_or};
+ghost use Rattle.std.specs.Prelude.{◌≡◌, true, Some, ◌+◌, ◌-◌, ◌*◌, ◌<◌, ◌≤◌, length, drop, get_or};
 ghost use Rattle.std.proofs.lemmas.List.Edits.{sets};
-ghost use Rattle.remy.specs.Action.{valid_of};
 ghost use Rattle.trainer.specs.Settings.{settings_hold};
 ghost use Rattle.trainer.specs.Candidates.{candidates_of, no_candidate};
 ghost use Rattle.trainer.specs.State.{accepted_of};
+ghost use Rattle.trainer.specs.Phase.{phase_of};
 ghost use Rattle.wire.specs.Fields.{action_at};
 ghost use Rattle.host_lists.specs.Lists.{list_bytes, list_fits, list_after, asked_in_a_row};
-ghost use Rattle.host_lists.specs.Parts.{product_of, Few, own_part, row_of, candidates_with};
+ghost use Rattle.host_lists.specs.Parts.{product_of, Few, own_part, row_of, candidates_with, candidates_with_after};
 
-use record::Saved;
+use refusal::Refusal;
 use remy::action::Action;
 use trainer::Trainer;
-use trainer::inner::{axes, leaf};
+use trainer::inner::leaf::AtLeaf;
+use trainer::inner::list::Candidates;
+use trainer::phase::Phase;
 use trainer::settings::Settings;
 use wire::inner::{read, write};
 
-// Action k of the product of three axes, the first outermost.
-fn action_of(multipliers: &[f64], increments: &[i32], delays: &[f64], k: usize) -> Action
-    requires { (Few multipliers.now increments.now delays.now) × (k < length multipliers.now * (length increments.now * length delays.now)) }
-    ensures { result ≡ get_or (product_of multipliers.now increments.now delays.now) k no_candidate }
-{
-    let each = increments.len() * delays.len();
-    let rest = k % each;
-    let m = multipliers[k / each];
-    let i = increments[rest / delays.len()];
-    let d = delays[rest % delays.len()];
-    Action::new(m, i, d)
+// What each axis of a change keeps, computed once. Their product is the list of candidates, the multiplier outermost.
+#[derive(Clone, Copy)]
+struct Axes<'a> {
+    multipliers: &'a [f64],
+    increments: &'a [i32],
+    delays: &'a [f64],
+    ghost few: { Few multipliers.now increments.now delays.now },
 }
 
-// The last n actions of the product, those from number from on.
-fn put_product(
-    out: &mut [u8],
-    at: usize,
-    multipliers: &[f64],
-    increments: &[i32],
-    delays: &[f64],
-    from: usize,
-    n: usize,
-)
-    requires { (Few multipliers.now increments.now delays.now) × (from + n ≡ length multipliers.now * (length increments.now * length delays.now)) × (at + 20 * n ≤ length out.old) }
-    ensures { out.new ≡ sets out.old at (list_bytes (drop from (product_of multipliers.now increments.now delays.now))) }
-{
-    let mut j: usize = 0;
-    while j < n {
-        let a = action_of(multipliers, increments, delays, from + j);
-        write::put_action(out, at + 20 * j, a);
-        j += 1;
+impl<'a> Axes<'a> {
+    #[tactic(auto, using(crate::proofs::Products::each_few, crate::proofs::Products::all_few))]
+    fn len(self) -> usize
+        ensures value { result ≡ length self.entry.multipliers.now * (length self.entry.increments.now * length self.entry.delays.now) }
+        ensures few { result ≤ 4096 }
+    {
+        self.multipliers.len() * (self.increments.len() * self.delays.len())
+    }
+
+    // Action k of the product.
+    fn at(self, k: usize) -> Action
+        requires { k < length self.multipliers.now * (length self.increments.now * length self.delays.now) }
+        ensures { result ≡ get_or (product_of self.entry.multipliers.now self.entry.increments.now self.entry.delays.now) k no_candidate }
+    {
+        let each = self.increments.len() * self.delays.len();
+        let rest = k % each;
+        let m = self.multipliers[k / each];
+        let i = self.increments[rest / self.delays.len()];
+        let d = self.delays[rest % self.delays.len()];
+        Action::new(m, i, d)
+    }
+
+    // The actions of the product from number from on.
+    fn put(self, out: &mut [u8], at: usize, from: usize)
+        requires held { from ≤ length self.multipliers.now * (length self.increments.now * length self.delays.now) }
+        requires room { at + 20 * (length self.multipliers.now * (length self.increments.now * length self.delays.now) - from) ≤ length out.old }
+        ensures { out.new ≡ sets out.old at (list_bytes (drop from (product_of self.entry.multipliers.now self.entry.increments.now self.entry.delays.now))) }
+    {
+        for j in 0..self.len() - from {
+            let a = self.at(from + j);
+            write::put_action(out, at + 20 * j, a);
+        }
+    }
+
+    // The action itself where it is given, then the product from number from on.
+    fn put_row(self, out: &mut [u8], own: Option<Action>, from: usize) -> Result<usize, Refusal>
+        requires { from ≤ length self.multipliers.now * (length self.increments.now * length self.delays.now) }
+        ensures { (result ≡ list_fits (row_of own from (product_of self.entry.multipliers.now self.entry.increments.now self.entry.delays.now)) out.old)
+            × (out.new ≡ list_after (row_of own from (product_of self.entry.multipliers.now self.entry.increments.now self.entry.delays.now)) out.old) }
+    {
+        let at = own_size(own);
+        let size = at + 20 * (self.len() - from);
+        if size > out.len() {
+            return Err(Refusal::ShortBuffer);
+        }
+        put_own(out, own);
+        self.put(out, at, from);
+        Ok(size)
     }
 }
 
-fn own_size(own: bool, a: Action) -> usize
-    ensures { result ≡ 20 * length (own_part own a) }
+// The size is wanted before the first byte is written, so it is no answer of put_own.
+#[tactic(auto, unfolding(crate::specs::Parts::own_part))]
+fn own_size(own: Option<Action>) -> usize
+    ensures { result ≡ 20 * length (own_part own) }
 {
-    if own { 20 } else { 0 }
+    match own {
+        Some(_) => 20,
+        None => 0,
+    }
 }
 
-fn put_own(out: &mut [u8], own: bool, a: Action)
-    requires { 20 * length (own_part own a) ≤ length out.old }
-    ensures { out.new ≡ sets out.old 0 (list_bytes (own_part own a)) }
+#[tactic(auto, using(crate::proofs::Listing::own_put, crate::proofs::Listing::own_none), unfolding(crate::specs::Parts::own_part))]
+fn put_own(out: &mut [u8], own: Option<Action>)
+    requires { 20 * length (own_part own) ≤ length out.old }
+    ensures { out.new ≡ sets out.old 0 (list_bytes (own_part own)) }
 {
-    if own {
+    if let Some(a) = own {
         write::put_action(out, 0, a);
     }
 }
 
-// The action itself where own says so, then the product from number from on.
-fn put_row(
-    out: &mut [u8],
-    own: bool,
-    a: Action,
-    multipliers: &[f64],
-    increments: &[i32],
-    delays: &[f64],
+// The candidates of an action from number from on, after the action that is given.
+fn put_candidates(
+    list: Candidates<'_>,
+    own: Option<Action>,
     from: usize,
-) -> Saved
-    requires { (Few multipliers.now increments.now delays.now) × (from ≤ length multipliers.now * (length increments.now * length delays.now)) }
-    ensures { (result ≡ list_fits (row_of own a from (product_of multipliers.now increments.now delays.now)) out.old) × (out.new ≡ list_after (row_of own a from (product_of multipliers.now increments.now delays.now)) out.old (list_fits (row_of own a from (product_of multipliers.now increments.now delays.now)) out.old)) }
+    out: &mut [u8],
+) -> Result<usize, Refusal>
+    requires { from ≤ length (candidates_of list.settings.now list.action) }
+    ensures { (result ≡ list_fits (row_of own from (candidates_of list.entry.settings.now list.entry.action)) out.old)
+        × (out.new ≡ list_after (row_of own from (candidates_of list.entry.settings.now list.entry.action)) out.old) }
 {
-    let n = multipliers.len() * (increments.len() * delays.len()) - from;
-    let at = own_size(own, a);
-    let size = at + 20 * n;
-    if size <= out.len() {
-        put_own(out, own, a);
-        put_product(out, at, multipliers, increments, delays, from, n);
-        return Saved::Size(size);
+    let m = list.multiplier_sums();
+    let i = list.increment_sums();
+    let d = list.delay_sums();
+    let axes = Axes {
+        multipliers: m.as_slice(),
+        increments: i.as_slice(),
+        delays: d.as_slice(),
+    };
+    axes.put_row(out, own, from)
+}
+
+#[tactic(auto, using(std::proofs::lemmas::Bool::Decides::nat_tests), unfolding(crate::specs::Parts::candidates_with, crate::specs::Parts::candidates_with_after, crate::specs::Parts::own_part, refusal::specs::Guards::pass))]
+pub fn candidates_with(s: &Settings, action: &[u8], out: &mut [u8]) -> Result<usize, Refusal>
+    requires { settings_hold s.now ≡ true }
+    ensures { (result ≡ candidates_with s.now action.now out.old) × (out.new ≡ candidates_with_after s.now action.now out.old) }
+{
+    if action.len() != 20 {
+        return Err(Refusal::BadLength);
     }
-    Saved::Refused(refusal::SHORT_BUFFER)
+    let a = read::action_at(action, 0);
+    if !a.valid() {
+        return Err(Refusal::NotAdmitted);
+    }
+    let list = Candidates {
+        settings: s,
+        action: a,
+    };
+    put_candidates(list, None, 0, out)
 }
 
-// The candidates of an action from number from on, after the action itself where own says so. Each axis is computed once.
-fn put_candidates(s: Settings, own: bool, a: Action, from: usize, out: &mut [u8]) -> Saved
-    requires { (settings_hold s ≡ true) × (valid_of a ≡ true) × (from ≤ length (candidates_of s a)) }
-    ensures { (result ≡ list_fits (row_of own a from (candidates_of s a)) out.old) × (out.new ≡ list_after (row_of own a from (candidates_of s a)) out.old (list_fits (row_of own a from (candidates_of s a)) out.old)) }
+fn asked_in(t: &Trainer, phase: Phase, out: &mut [u8]) -> Result<usize, Refusal>
+    requires accepted { accepted_of t.now ≡ true }
+    requires named { phase_of t.now.phase ≡ Some phase }
+    ensures { (result ≡ list_fits (asked_in_a_row t.now) out.old) × (out.new ≡ list_after (asked_in_a_row t.now) out.old) }
 {
-    let m = axes::multiplier_sums(s, a);
-    let i = axes::increment_sums(s, a);
-    let d = axes::delay_sums(s, a);
-    let multipliers = m.values;
-    let increments = i.values;
-    let delays = d.values;
-    let ms = m.count as usize;
-    let is = i.count as usize;
-    let ds = d.count as usize;
-    put_row(
-        out,
-        own,
-        a,
-        &multipliers[..ms],
-        &increments[..is],
-        &delays[..ds],
-        from,
-    )
-}
-
-pub fn candidates_with(s: Settings, action: &[u8], out: &mut [u8]) -> Saved
-    requires { settings_hold s ≡ true }
-    ensures { (result ≡ candidates_with s action.now out.old) × (out.new ≡ list_after (candidates_of s (action_at action.now 0)) out.old (candidates_with s action.now out.old)) }
-{
-    if action.len() == 20 {
-        let a = read::action_at(action, 0);
-        if a.valid() {
-            return put_candidates(s, false, a, 0, out);
+    match phase {
+        Phase::Own => {
+            let list = AtLeaf { trainer: t }.candidates();
+            put_candidates(list, Some(list.action), 0, out)
         }
-        return Saved::Refused(refusal::NOT_ADMITTED);
+        Phase::Try => {
+            let list = AtLeaf { trainer: t }.candidates();
+            put_candidates(list, None, usize::from(t.k), out)
+        }
+        _ => Ok(0),
     }
-    Saved::Refused(refusal::BAD_LENGTH)
 }
 
 // What an accepted trainer asks for in a row.
-pub fn asked_by(t: Trainer, out: &mut [u8]) -> Saved
-    requires { accepted_of t ≡ true }
-    ensures { (result ≡ list_fits (asked_in_a_row t) out.old) × (out.new ≡ list_after (asked_in_a_row t) out.old (list_fits (asked_in_a_row t) out.old)) }
+#[tactic(auto, using(crate::proofs::Rows::row_nowhere))]
+pub fn asked_by(t: &Trainer, out: &mut [u8]) -> Result<usize, Refusal>
+    requires { accepted_of t.now ≡ true }
+    ensures { (result ≡ list_fits (asked_in_a_row t.now) out.old) × (out.new ≡ list_after (asked_in_a_row t.now) out.old) }
 {
-    let s = t.settings;
-    let tree = t.tree;
-    let phase = t.phase;
-    if phase == 4 {
-        let a = leaf::action_at(tree, t.leaf);
-        return put_candidates(s, true, a, 0, out);
+    match Phase::of(t.phase) {
+        Some(phase) => asked_in(t, phase, out),
+        None => Ok(0),
     }
-    if phase == 5 {
-        let a = leaf::action_at(tree, t.leaf);
-        return put_candidates(s, false, a, t.k as usize, out);
-    }
-    Saved::Size(0)
 }

@@ -1,96 +1,85 @@
 // A trainer out of a host's bytes, what an answer makes of it, and its record.
-ghost use Rattle.std.specs.Prelude.{◌≡◌, ◌*◌, ◌≤◌, take};
-ghost use Rattle.rule_tree.specs.Lists.{tabulate};
-ghost use Rattle.wire.specs.Bytes.{number_at};
-ghost use Rattle.host_trainer.specs.Records.{settings_in, start_in, score_answered, counts_answered, written_of, record_after};
+ghost use Rattle.std.specs.Prelude.{◌≡◌};
+ghost use Rattle.trainer.specs.Calls.{answer_counts_of};
+ghost use Rattle.host_trainer.specs.Records.{settings_in, settings_of, start_in, counts_in, score_answered, counts_answered, written_of, record_after};
 ghost use Rattle.host_trainer.specs.Parts.{count_of};
 
-use record::Saved;
-use record::inner::{body, layout};
+use record::inner::layout::{ENDS_SIZE, Layout, SETTINGS_SIZE, VERSION};
+use refusal::Refusal;
+use rule_tree::NODES;
+use trainer::Trainer;
 use trainer::settings::Settings;
-use trainer::{Answered, Trainer};
 use wire::inner::read;
 
+// The bytes of a list of as many counts as a tree has nodes at most.
+const MOST_COUNTS: usize = 8 * NODES;
+
 // The record of the trainer after a call; of a refused call nothing.
-pub fn written(a: Answered, out: &mut [u8]) -> Saved
+#[tactic(auto, unfolding(crate::specs::Records::written_of, crate::specs::Records::record_after))]
+pub fn written(a: Result<Trainer, Refusal>, out: &mut [u8]) -> Result<usize, Refusal>
     ensures { (result ≡ written_of a out.old) × (out.new ≡ record_after a out.old) }
 {
-    let refused = a.refused;
-    if refused == 0 {
-        let t = a.trainer;
-        return record::save(t, out);
-    }
-    Saved::Refused(refused)
+    record::save(a?, out)
 }
 
-// The settings as a record of version 3 has them, the upper ends last.
+// The settings as the record has them, the upper ends last.
 pub fn settings_in(bytes: &[u8]) -> Settings
     ensures { result ≡ settings_in bytes.now }
 {
-    let l = layout::of_version(3);
-    record::inner::read::settings_at(bytes, l, 0)
+    record::inner::read::settings_at(bytes, Layout::of_version(VERSION), 0)
 }
 
-pub fn started(settings: &[u8]) -> Answered
+// The same where the bytes are settings: other lengths, and a drill byte that is neither 0 nor 1, are not.
+#[tactic(auto, using(std::proofs::lemmas::Bool::Decides::nat_tests), unfolding(crate::specs::Records::settings_of, crate::specs::Records::settings_whole))]
+pub fn settings_of(bytes: &[u8]) -> Result<Settings, Refusal>
+    ensures { result ≡ settings_of bytes.now }
+{
+    if bytes.len() != SETTINGS_SIZE + ENDS_SIZE || read::byte_at(bytes, 12) > 1 {
+        return Err(Refusal::BadSettings);
+    }
+    Ok(settings_in(bytes))
+}
+
+#[tactic(auto, unfolding(crate::specs::Records::start_in))]
+pub fn started(settings: &[u8]) -> Result<Trainer, Refusal>
     ensures { result ≡ start_in settings.now }
 {
-    if settings.len() == 137 {
-        if read::byte_at(settings, 12) <= 1 {
-            let s = settings_in(settings);
-            return Trainer::start(s);
-        }
-    }
-    body::refused(2)
+    Trainer::start(settings_of(settings)?)
 }
 
-pub fn scored(held: &[u8], bits: u64) -> Answered
+#[tactic(auto, unfolding(crate::specs::Records::score_answered))]
+pub fn scored(held: &[u8], bits: u64) -> Result<Trainer, Refusal>
     ensures { result ≡ score_answered held.now bits }
 {
-    let a = record::load(held);
-    if a.refused == 0 {
-        let t = a.trainer;
-        let score = floats::from_bits(bits);
-        return t.answer_score(score);
-    }
-    a
+    record::load(held)?.answer_score(floats::from_bits(bits))
 }
 
-// How many counts there are: none where they are cut, or more than any tree's.
+// How many counts there are: none where they are cut, or more than any tree's. No Option: such a list is one of none, which no tree takes.
+#[tactic(auto, using(std::proofs::lemmas::Bool::Decides::nat_tests), unfolding(crate::specs::Parts::count_of))]
 pub fn count_of(bytes: &[u8]) -> usize
     ensures { result ≡ count_of bytes.now }
 {
     let n = bytes.len();
-    if n % 8 == 0 {
-        if n <= 4104 {
-            return n / 8;
-        }
+    if n % 8 == 0 && n <= MOST_COUNTS {
+        n / 8
+    } else {
+        0
     }
-    0
 }
 
-// The first n counts.
-pub fn counts_of(bytes: &[u8], n: usize) -> [u64; 513]
-    requires { n ≤ 513 }
-    ensures { take n result ≡ tabulate n (λ i. number_at bytes.now (8 * i) 8) }
+// What the counts of the bytes make of a trainer.
+#[tactic(auto, using(crate::proofs::RecordWays::count_few, crate::proofs::RecordWays::counts_lent))]
+pub fn counted_by(t: Trainer, bytes: &[u8]) -> Result<Trainer, Refusal>
+    ensures { result ≡ answer_counts_of t (counts_in bytes.now) }
 {
-    let mut out = [0u64; 513];
-    let mut i: usize = 0;
-    while i < n {
-        out[i] = read::number_at(bytes, 8 * i, 8);
-        i += 1;
-    }
-    out
+    let n = count_of(bytes);
+    let counts: [u64; NODES] = read::counts_at(bytes, n);
+    t.answer_counts(&counts[..n])
 }
 
-pub fn counted(held: &[u8], counts: &[u8]) -> Answered
+#[tactic(auto, unfolding(crate::specs::Records::counts_answered))]
+pub fn counted(held: &[u8], counts: &[u8]) -> Result<Trainer, Refusal>
     ensures { result ≡ counts_answered held.now counts.now }
 {
-    let a = record::load(held);
-    if a.refused == 0 {
-        let t = a.trainer;
-        let n = count_of(counts);
-        let list = counts_of(counts, n);
-        return t.answer_counts(&list[0..n]);
-    }
-    a
+    counted_by(record::load(held)?, counts)
 }

@@ -2,44 +2,25 @@
 ghost use Rattle.std.specs.Prelude.{◌≡◌};
 ghost use Rattle.host_trainer.specs.Undone.{undone_trainer, undone_in};
 
-use trainer::{Answered, Trainer};
+use refusal::Refusal;
+use trainer::Trainer;
 
 // The trainer over the tree without its newest split; one whose leaf goes with it is refused.
-fn without_newest(t: Trainer) -> Answered
+#[tactic(auto, using(std::proofs::lemmas::Bool::Decides::nat_tests), unfolding(crate::specs::Undone::undone_trainer, rule_tree::specs::Calls::undo_of))]
+fn without_newest(t: Trainer) -> Result<Trainer, Refusal>
     ensures { result ≡ undone_trainer t }
 {
-    let tree = t.tree;
-    let changed = tree.undo_split();
-    if changed.refused == 0 {
-        let last = (t.leaf as usize) + 8;
-        let nodes = 1 + 8 * (tree.splits as usize);
-        if last < nodes {
-            let other = changed.tree;
-            let mut trainer = t;
-            trainer.tree = other;
-            return Answered {
-                refused: 0,
-                trainer,
-            };
-        }
-        return Answered {
-            refused: refusal::NO_LEAF,
-            trainer: t,
-        };
+    let tree = t.tree.undo_split()?;
+    let nodes = 1 + 8 * u32::from(t.tree.splits);
+    if u32::from(t.leaf) + 8 >= nodes {
+        return Err(Refusal::NoLeaf);
     }
-    Answered {
-        refused: changed.refused,
-        trainer: t,
-    }
+    Ok(Trainer { tree, ..t })
 }
 
-pub fn undone(held: &[u8]) -> Answered
+#[tactic(auto, unfolding(crate::specs::Undone::undone_in))]
+pub fn undone(held: &[u8]) -> Result<Trainer, Refusal>
     ensures { result ≡ undone_in held.now }
 {
-    let a = record::load(held);
-    if a.refused == 0 {
-        let t = a.trainer;
-        return without_newest(t);
-    }
-    a
+    without_newest(record::load(held)?)
 }

@@ -1,13 +1,11 @@
--- `host_answers::inner::groups::groups_on` meets its contract. The loop's invariant: the trainer is accepted, and the rest of the list answers what the whole list does. Assumes nothing.
-use Rattle.host_answers.proofs.Groups as law
-use mathlib.Core.Path.{◌≡◌}
-use Prim.Native.Nat.{◌-◌, ◌≤◌}
-use lib.ListN.{length}
+-- The loop's invariant: what is left of the list answers what the whole list does. Assumes nothing.
+use Rattle.std.proofs.Common.{length}
 use Rattle.host_answers.specs.Parts.{Ready}
+use Rattle.host_answers.proofs.Groups.{Going}
 use Rattle.host_answers.proofs.inner.groups.groups_on.Given as goal
 
-abbrev pub invariant-loop-at : goal.invariant-loop-at
-invariant-loop-at l = (l.at ≤ length l.list) × (l.a.refused ≡ 0 → Ready l.a.trainer) × (law.Going l.held l.list l.a l.at)
+abbrev pub invariant-loop-rest : goal.invariant-loop-rest
+invariant-loop-rest l = (Ready l.t) × Going l.held l.list l.t l.rest
 
-abbrev pub decreases-loop-at : goal.decreases-loop-at
-decreases-loop-at l = length l.list - l.at
+abbrev pub decreases-loop-rest : goal.decreases-loop-rest
+decreases-loop-rest l = length l.rest

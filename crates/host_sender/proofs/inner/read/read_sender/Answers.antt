@@ -1,6 +1,21 @@
 -- `read_sender` gathers the fields. Assumes nothing.
-use Rattle.host_sender.proofs.Reading as law
+use Rattle.quantities.specs.Time.{span}
+use Rattle.host_sender.specs.Layout.{sender_at}
 use Rattle.host_sender.proofs.inner.read.read_sender.Goals as goal
 
 pub returns : goal.returns
-returns c = law.sender_read c.args.bytes.now c.moment_at-last_ack.ensures c.moment_at-last_ack_send.ensures c.average_at-ack_ewma.ensures c.average_at-send_ewma.ensures c.trips_at-rtt.ensures c.pending_at-next_change.ensures c.mode_at-repeat_actions.ensures c.moment_at-last_send.ensures c.word_at-window.ensures c.float_at.ensures
+unfolding sender_at
+returns c =
+    λ j.
+    record {
+      last_ack = c.moment_at.ensures j;
+      last_ack_send = c.moment_at-2.ensures j;
+      ack_ewma = c.average_at.ensures j;
+      send_ewma = c.average_at-2.ensures j;
+      rtt = c.trips_at.ensures j;
+      next_change = c.pending_at.ensures j;
+      repeat_actions = c.mode_at.ensures j;
+      last_send = c.moment_at-3.ensures j;
+      window = c.word_at.ensures j;
+      intersend_delay = span (c.float_at.ensures j);
+    }

@@ -1,10 +1,11 @@
 -- `put_reply` stores a reply's bytes. Assumes nothing.
-use mathlib.Core.Path.{refl, ap, ◌∙◌}
-use Rattle.wire.specs.Bytes.{flag_byte}
+use mathlib.Core.Path.{refl}
+use borrow.Author.Rules.{rules}
 use Rattle.host_sender.proofs.Running as law
 use Rattle.host_sender.proofs.inner.run.put_reply.Goals as goal
 
-pub returns : goal.returns
-returns c =
-    law.reply_written c.args.out.now c.args.at c.args.reply c.code_of.ensures c.shown_by-window.ensures
-    (c.flag_of-flag.ensures ∙ ap flag_byte c.clipped_by.ensures) c.put.ensures refl
+pub returns-in-Ok : goal.returns-in-Ok
+returns-in-Ok c = law.taken_written c.args.out.now c.args.at c.in-Ok.is c.flag_of.ensures c.put.ensures refl (search rules)
+
+pub returns-in-Err : goal.returns-in-Err
+returns-in-Err c = law.refused_written c.args.out.now c.args.at c.in-Err.is c.put-in-Err.ensures c.put-in-Err-2.ensures (search rules)

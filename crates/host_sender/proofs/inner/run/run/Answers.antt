@@ -1,33 +1,25 @@
--- What the loop of `run` keeps: the first i events left the sender, and their replies are in out.
+-- What the loop of `run` keeps: the first i events left the sender, and their replies are in out. Assumes nothing.
 use mathlib.Core.Path.{refl, ◌∙◌}
 use Prim.Native.Nat.{◌+◌, ◌-◌, ◌*◌}
 use native.Mathlib.Omega.{arith}
 use borrow.Author.Rules.{rules}
-use Rattle.sender.proofs.Asking as asks
 use Rattle.host_sender.proofs.Running as law
 use Rattle.host_sender.proofs.inner.run.run.Goals as goal
 
--- the gathered links and root are the tree's
-pub ask_for-asked-requires : goal.ask_for-asked-requires
-ask_for-asked-requires c =
-    asks.gathered c.args.tree c.requires.0 (record { acks = search rules; sends = search rules; ratios = search rules }) c.children_of-children.ensures c.root-root.ensures
-
 pub loop-i-init : goal.loop-i-init
 loop-i-init c =
-    (search rules, refl, (law.none_yet c.args.tree c.args.s c.args.list.now, law.none_put c.args.tree c.args.s c.args.list.now c.args.out.now))
-
-pub bounds-tree-node : goal.bounds-tree-node
-bounds-tree-node c =
-    asks.node_below _ _ (asks.gathered c.args.tree c.requires.0 (record { acks = search rules; sends = search rules; ratios = search rules }) c.children_of-children.ensures c.root-root.ensures) _ _ c.ask_for-asked.ensures c.node_of-node.ensures
+    let t = c.args.rules.now.grown.tree.now in
+    (search rules, refl, (law.none_yet t c.args.s c.args.list.now, law.none_put t c.args.s c.args.list.now c.args.out.now))
 
 pub loop-i-preserved : goal.loop-i-preserved
 loop-i-preserved c =
-    let is =
-    asks.replied c.args.tree _ _ c.requires.0 c.children_of-children.ensures c.root-root.ensures c.ask_for-asked.ensures c.node_of-node.ensures c.action-a.ensures c.draw_of.ensures c.answer-reply.ensures in (
+    let t = c.args.rules.now.grown.tree.now in
+    let size = 22 * c.loop-i.i + 22 - 22 * c.loop-i.i in
+    let before = c.loop-i.invariant.2 in (
       omega (arith, c.loop-i-test.true),
       c.put_reply.auto.out ∙ c.loop-i.invariant.1,
       (
-        law.sender_turn_lem c.args.tree c.args.s c.args.list.now c.loop-i.i (22 * c.loop-i.i + 22 - 22 * c.loop-i.i) (omega arith) c.loop-i.invariant.2.0 c.event_at-e.ensures is c.left_by-left.ensures,
-        law.replies_turn c.args.tree c.args.s c.args.list.now c.loop-i.i (22 * c.loop-i.i + 22 - 22 * c.loop-i.i) (omega arith) c.loop-i.invariant.2.0 c.event_at-e.ensures is c.args.out.now c.loop-i.invariant.2.1 c.put_reply.ensures,
+        law.sender_turn t c.args.s c.args.list.now c.loop-i.i size (omega arith) before.0 c.event_at.ensures c.event_by-reply.ensures c.left_by-left.ensures,
+        law.replies_turn t c.args.s c.args.list.now c.loop-i.i size (omega arith) before.0 c.event_at.ensures c.event_by-reply.ensures c.args.out.now before.1 c.put_reply.ensures,
       ),
     )

@@ -1,6 +1,8 @@
--- `host_trainer::inner::records::settings_in` meets its contract. Assumes nothing.
-use Rattle.host_trainer.proofs.RecordWays as law
+-- `host_trainer::inner::records::settings_in` reads by the layout of the version that is written. Assumes nothing.
+use Rattle.std.proofs.Common.{ap, ◌∙◌}
+use Rattle.record.specs.declared.inner.layout.Layout.{Layout}
+use Rattle.record.specs.Read.{settings_at}
 use Rattle.host_trainer.proofs.inner.records.settings_in.Goals as goal
 
 pub returns : goal.returns
-returns c = law.settings_in_lem c.args.bytes.now c.of_version-l.ensures c.settings_at.ensures
+returns c = c.settings_at.ensures ∙ ap (λ (l : Layout). settings_at l c.args.bytes.now 0) c.of_version.ensures
