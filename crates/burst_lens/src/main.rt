@@ -1,12 +1,13 @@
 // Bursts of acks, printed, each beside its acks given one by one: how many are taken, what stops it, and what is in the two lists.
 #![tactic(auto)]
 
-ghost use Rattle.std.specs.Prelude.{◌≤◌};
+ghost use Rattle.std.specs.Prelude.{◌<◌, ◌≤◌, length};
 
+use refusal::Refusal;
 use remy::action::Action;
 use remy::point::Point;
 use rule_tree::RuleTree;
-use sender::{Ack, Burst, BurstReply, Draw, Ran, RepeatMode, Reply, Sender};
+use sender::{Ack, Held, Ran, RepeatMode, Sender};
 
 fn say(text: &[u8]) {
     io::write_all(1, text);
@@ -16,283 +17,299 @@ fn number(n: u64) {
     io::print_decimal(1, n);
 }
 
+fn refused(r: Refusal) {
+    say(b"refused ");
+    number(u64::from(r.number()));
+}
+
 // A tree of one leaf, whose action adds to the window.
-fn adds(increment: i32) -> RuleTree {
-    RuleTree::new(Point::usual_ends(), Action::new(1.0, increment, 0.25)).tree
+fn adds(increment: i32) -> Result<RuleTree, Refusal> {
+    RuleTree::new(Point::usual_ends(), Action::new(1.0, increment, 0.25))
 }
 
 fn ack(sent: f64, received: f64) -> Ack {
     Ack {
         sent,
         received,
-        draw: Draw::Absent,
+        draw: None,
     }
 }
 
 fn drawn(sent: f64, received: f64, n: u32) -> Ack {
     Ack {
-        sent,
-        received,
-        draw: Draw::Given(n),
+        draw: Some(n),
+        ..ack(sent, received)
     }
 }
 
 // Acks of what was sent each quarter of a second, received half a second later.
-fn steady() -> [Ack; 256] {
-    let mut acks = [ack(0.0, 0.5); 256];
+fn steady() -> [Ack; 257] {
+    let mut acks = [ack(0.0, 0.5); 257];
     let mut at = 0.0;
-    let mut i: usize = 0;
-    while i < 256 {
-        let x = ack(at, at + 0.5);
-        acks[i] = x;
-        at = at + 0.25;
-        i += 1;
+    for x in acks.iter_mut() {
+        *x = ack(at, at + 0.5);
+        at += 0.25;
     }
     acks
 }
 
-// The places 0 to 3, 254 and 255: a window, and `c` after one that was clipped. A window of 7 with `?` was not written.
-fn place(window: u32, flag: u8) {
-    say(b" ");
-    number(window as u64);
-    if flag == 1 {
-        say(b"c");
+// The lists that a burst is lent: windows, and flags as bytes. Where nothing was written stand a window of 7 and a flag of 9.
+#[derive(Clone, Copy, PartialEq)]
+struct Lists {
+    windows: [u32; 256],
+    clipped: [u8; 256],
+}
+
+impl Lists {
+    fn new() -> Lists {
+        Lists {
+            windows: [7; 256],
+            clipped: [9; 256],
+        }
     }
-    if flag == 9 {
-        say(b"?");
+
+    // A window, and `c` after one that was clipped, `?` after one that was not written.
+    fn place(&self, i: usize)
+        requires { i < 256 }
+    {
+        say(b" ");
+        number(u64::from(self.windows[i]));
+        match self.clipped[i] {
+            1 => say(b"c"),
+            9 => say(b"?"),
+            _ => {}
+        }
+    }
+
+    // The places 0 to 3, 254 and 255.
+    fn show(&self) {
+        say(b":");
+        for i in 0..4 {
+            self.place(i);
+        }
+        say(b" ..");
+        self.place(254);
+        self.place(255);
     }
 }
 
-fn places(windows: &[u32; 256], clipped: &[u8; 256]) {
-    place(windows[0], clipped[0]);
-    place(windows[1], clipped[1]);
-    place(windows[2], clipped[2]);
-    place(windows[3], clipped[3]);
-    say(b" ..");
-    place(windows[254], clipped[254]);
-    place(windows[255], clipped[255]);
+// What is seen of a run: how many acks it took, what stopped it, its window, what one more ack answers, and the lists.
+#[derive(Clone, Copy, PartialEq)]
+struct Outcome {
+    taken: usize,
+    stopped: Option<Refusal>,
+    window: u32,
+    next: Result<u32, Refusal>,
+    lists: Lists,
 }
 
-fn flag(clipped: bool) -> u8 {
-    if clipped { 1 } else { 0 }
+impl Outcome {
+    fn show(&self) {
+        say(b"  taken ");
+        number(self.taken as u64);
+        say(b", stopped ");
+        number(self.stopped.map_or(0, |r| u64::from(r.number())));
+        say(b", window ");
+        number(u64::from(self.window));
+        self.lists.show();
+    }
 }
 
-// The acks by single calls, up to the first that is refused.
-fn one_by_one(
-    s: Sender,
+// A sender at work over a tree.
+#[derive(Clone, Copy)]
+struct Working {
+    sender: Sender,
     tree: RuleTree,
-    acks: [Ack; 256],
-    count: usize,
-    windows: &mut [u32; 256],
-    clipped: &mut [u8; 256],
-) -> Ran
-    requires { count ≤ 256 }
-{
-    let mut left = s;
-    let mut i: usize = 0;
-    while i < count {
-        let x = acks[i];
-        let draw = x.draw;
-        match left.ack_received(tree, x.sent, x.received, draw) {
-            Reply::Taken(h) => {
-                windows[i] = h.window;
-                clipped[i] = flag(h.clipped);
-                left = h.sender;
+}
+
+impl Working {
+    fn ack(self, x: Ack) -> Result<Held, Refusal> {
+        self.sender
+            .ack_received(self.tree, x.sent, x.received, x.draw)
+    }
+
+    fn outcome(self, ran: Ran, lists: Lists) -> Outcome {
+        let left = Working {
+            sender: ran.sender,
+            ..self
+        };
+        Outcome {
+            taken: ran.taken,
+            stopped: ran.stopped,
+            window: ran.sender.window,
+            next: left.ack(ack(100.0, 100.5)).map(|held| held.window),
+            lists,
+        }
+    }
+
+    // The acks by single calls, up to the first that is refused.
+    fn one_by_one(self, acks: &[Ack], lists: &mut Lists) -> Ran
+        requires { length acks.now ≤ 256 }
+    {
+        let mut at = self;
+        for (i, x) in acks.iter().enumerate() {
+            match at.ack(*x) {
+                Ok(held) => {
+                    lists.windows[i] = held.window;
+                    lists.clipped[i] = u8::from(held.clipped);
+                    at.sender = held.sender;
+                }
+                Err(r) => {
+                    return Ran {
+                        sender: at.sender,
+                        taken: i,
+                        stopped: Some(r),
+                    };
+                }
             }
-            Reply::Refused(k) => {
-                return Ran {
-                    sender: left,
-                    taken: i,
-                    stopped: k,
-                };
+        }
+        Ran {
+            sender: at.sender,
+            taken: acks.len(),
+            stopped: None,
+        }
+    }
+
+    // Whether the acks one by one do the same.
+    fn as_singles(self, acks: &[Ack], outcome: Outcome) -> bool {
+        let mut lists = Lists::new();
+        acks.len() <= 256
+            && {
+                let ran = self.one_by_one(acks, &mut lists);
+                self.outcome(ran, lists) == outcome
+            }
+    }
+
+    // A burst into lists of these lengths.
+    fn burst_into(self, acks: &[Ack], windows: usize, flags: usize)
+        requires { (windows ≤ 256) × (flags ≤ 256) }
+    {
+        let mut lists = Lists::new();
+        match self.sender.burst(
+            self.tree,
+            acks,
+            &mut lists.windows[..windows],
+            &mut lists.clipped[..flags],
+        ) {
+            Ok(ran) => {
+                let outcome = self.outcome(ran, lists);
+                outcome.show();
+                if self.as_singles(acks, outcome) {
+                    say(b", as one by one\n");
+                } else {
+                    say(b", NOT as one by one\n");
+                }
+            }
+            Err(r) => {
+                say(b"  ");
+                refused(r);
+                lists.show();
+                say(b"\n");
             }
         }
-        i += 1;
     }
-    Ran {
-        sender: left,
-        taken: i,
-        stopped: 0,
-    }
-}
 
-fn same_lists(w: &[u32; 256], v: &[u32; 256], f: &[u8; 256], g: &[u8; 256]) -> bool {
-    let mut i: usize = 0;
-    while i < 256 {
-        if w[i] != v[i] || f[i] != g[i] {
-            return false;
-        }
-        i += 1;
-    }
-    true
-}
-
-// What one more ack answers: its window, or the refusal's number past the largest window.
-fn next_answer(s: Sender, tree: RuleTree) -> u32 {
-    match s.ack_received(tree, 100.0, 100.5, Draw::Absent) {
-        Reply::Taken(h) => h.window,
-        Reply::Refused(k) => { if k < 100 { 1000000 + k } else { 0 } }
+    // A burst with a place for each ack that one may have.
+    fn burst(self, acks: &[Ack]) {
+        self.burst_into(acks, 256, 256);
     }
 }
 
-fn same_runs(tree: RuleTree, a: Ran, b: Ran) -> bool {
-    let s = a.sender;
-    let t = b.sender;
-    if a.taken == b.taken && a.stopped == b.stopped && s.window == t.window {
-        return next_answer(s, tree) == next_answer(t, tree);
-    }
-    false
-}
-
-fn told(ran: Ran) {
-    say(b"  taken ");
-    number(ran.taken as u64);
-    say(b", stopped ");
-    number(ran.stopped as u64);
-    let s = ran.sender;
-    say(b", window ");
-    number(s.window as u64);
-    say(b":");
-}
-
-// A burst over a tree into lists of these lengths.
-fn burst(s: Sender, tree: RuleTree, acks: [Ack; 256], count: usize, room: usize, flags: usize)
-    requires { (room ≤ 256) × (flags ≤ 256) }
-{
-    let mut windows: [u32; 256] = [7; 256];
-    let mut clipped: [u8; 256] = [9; 256];
-    let b = Burst { count, acks };
-    match s.burst(tree, b, &mut windows[..room], &mut clipped[..flags]) {
-        BurstReply::Done(ran) => {
-            told(ran);
-            places(&windows, &clipped);
-            compared(s, tree, acks, count, ran, &windows, &clipped);
-        }
-        BurstReply::Refused(k) => {
-            say(b"  refused ");
-            number(k as u64);
-            say(b":");
-            places(&windows, &clipped);
-            say(b"\n");
-        }
-    }
-}
-
-// Whether the acks one by one leave the same lists and the same sender.
-fn compared(
-    s: Sender,
-    tree: RuleTree,
-    acks: [Ack; 256],
-    count: usize,
-    ran: Ran,
-    windows: &[u32; 256],
-    clipped: &[u8; 256],
-) {
-    let mut v: [u32; 256] = [7; 256];
-    let mut g: [u8; 256] = [9; 256];
-    if count <= 256 {
-        let single = one_by_one(s, tree, acks, count, &mut v, &mut g);
-        if same_runs(tree, ran, single) && same_lists(windows, &v, clipped, &g) {
-            say(b", as one by one\n");
-            return;
-        }
-    }
-    say(b", NOT as one by one\n");
-}
-
-fn start(title: &[u8], mode: RepeatMode) -> Sender {
+fn start(title: &[u8], mode: RepeatMode, tree: RuleTree) -> Working {
     say(title);
     say(b"\n");
-    sender::inner::memory::fresh(mode)
+    let sender = sender::inner::memory::fresh(mode);
+    Working { sender, tree }
 }
 
-fn lengths() {
-    let s = start(b"0, 1, 255, 256 and 257 acks", RepeatMode::Off);
+fn lengths() -> Result<(), Refusal> {
+    let s = start(b"0, 1, 255, 256 and 257 acks", RepeatMode::Off, adds(1)?);
     let acks = steady();
-    let tree = adds(1);
-    burst(s, tree, acks, 0, 256, 256);
-    burst(s, tree, acks, 1, 256, 256);
-    burst(s, tree, acks, 255, 256, 256);
-    burst(s, tree, acks, 256, 256, 256);
-    burst(s, tree, acks, 257, 256, 256);
+    for n in [0, 1, 255, 256, 257] {
+        s.burst(&acks[..n]);
+    }
+    Ok(())
 }
 
 // An ack with no moment, and one that comes 700 s after the first, behind which another would be taken.
-fn stops() {
+fn stops() -> Result<(), Refusal> {
     let s = start(
         b"five acks: stopped by 1 at the third, by 22 at the second, by 1 at the first",
         RepeatMode::Off,
+        adds(1)?,
     );
-    let tree = adds(1);
-    let mut unread = steady();
     let nan = ack(0.0 / 0.0, 1.0);
-    unread[2] = nan;
-    burst(s, tree, unread, 5, 256, 256);
-    let mut late = steady();
-    let far = ack(699.5, 700.5);
-    late[1] = far;
-    burst(s, tree, late, 5, 256, 256);
-    let mut first = steady();
-    first[0] = nan;
-    burst(s, tree, first, 5, 256, 256);
+    for (i, x) in [(2, nan), (1, ack(699.5, 700.5)), (0, nan)] {
+        let mut acks = steady();
+        acks[i] = x;
+        s.burst(&acks[..5]);
+    }
+    Ok(())
 }
 
 // A draw of 1 serves the next two acks, so the fourth has one due.
-fn draws() {
+fn draws() -> Result<(), Refusal> {
     let s = start(
         b"0..=2, draws 1, 9, 9 and none: stopped by 5 at the fourth",
         RepeatMode::Between(0, 2),
+        adds(10)?,
     );
-    let tree = adds(10);
     let mut acks = steady();
-    let a = drawn(0.0, 0.5, 1);
-    acks[0] = a;
-    let b = drawn(0.25, 0.75, 9);
-    acks[1] = b;
-    let c = drawn(0.5, 1.0, 9);
-    acks[2] = c;
-    burst(s, tree, acks, 5, 256, 256);
-    let d = drawn(0.75, 1.25, 1);
-    acks[3] = d;
-    burst(s, tree, acks, 5, 256, 256);
+    acks[0] = drawn(0.0, 0.5, 1);
+    acks[1] = drawn(0.25, 0.75, 9);
+    acks[2] = drawn(0.5, 1.0, 9);
+    s.burst(&acks[..5]);
+    acks[3] = drawn(0.75, 1.25, 1);
+    s.burst(&acks[..5]);
+    Ok(())
 }
 
-fn clips() {
+fn clips() -> Result<(), Refusal> {
     let s = start(
         b"600000 more each: the second is clipped; while a send stands",
         RepeatMode::Off,
+        adds(600000)?,
     );
-    let tree = adds(600000);
     let acks = steady();
-    burst(s, tree, acks, 2, 256, 256);
-    if let Reply::Taken(h) = s.packet_sent(0.0) {
-        let sent = h.sender;
-        burst(sent, tree, acks, 2, 256, 256);
-    }
+    s.burst(&acks[..2]);
+    let sender = s.sender.packet_sent(0.0)?.sender;
+    Working { sender, ..s }.burst(&acks[..2]);
+    Ok(())
 }
 
 // As many places as acks, one less in one list, one less in the other; over a tree of 65 splits.
-fn short() {
+fn short() -> Result<(), Refusal> {
+    let tree = adds(1)?;
     let s = start(
         b"3 acks into 3 and 3 places, 2 and 3, 3 and 2; 2 and 2 over a tree that is none",
         RepeatMode::Off,
+        tree,
     );
+    let none = Working {
+        tree: RuleTree { splits: 65, ..tree },
+        ..s
+    };
     let acks = steady();
-    let tree = adds(1);
-    burst(s, tree, acks, 3, 3, 3);
-    burst(s, tree, acks, 3, 2, 3);
-    burst(s, tree, acks, 3, 3, 2);
-    let mut other = tree;
-    other.splits = 65;
-    burst(s, other, acks, 3, 2, 2);
-    burst(s, other, acks, 0, 0, 0);
-    burst(s, tree, acks, 0, 0, 0);
+    s.burst_into(&acks[..3], 3, 3);
+    s.burst_into(&acks[..3], 2, 3);
+    s.burst_into(&acks[..3], 3, 2);
+    none.burst_into(&acks[..3], 2, 2);
+    none.burst_into(&[], 0, 0);
+    s.burst_into(&[], 0, 0);
+    Ok(())
+}
+
+fn all() -> Result<(), Refusal> {
+    lengths()?;
+    stops()?;
+    draws()?;
+    clips()?;
+    short()
 }
 
 fn main() {
-    lengths();
-    stops();
-    draws();
-    clips();
-    short();
+    if let Err(r) = all() {
+        refused(r);
+        say(b"\n");
+    }
 }

@@ -4,6 +4,7 @@
 
 use small_trees::SplitList;
 
+// What this program prints with. Each has its own: a public function of a library has a contract that gives its answer, and printing has none.
 fn say(text: &[u8]) {
     io::write_all(1, text);
 }

@@ -5,10 +5,12 @@
 mod lent;
 
 use lent::Lent;
+use refusal::Refusal;
 use remy::action::Action;
 use remy::point::Point;
 use rule_tree::RuleTree;
-use sender::{Average, Draw, Held, Made, Moment, Pending, RepeatMode, Reply, Rtt, Sender};
+use sender::inner::events::left_by;
+use sender::{Held, RepeatMode, Sender};
 use sender_face::Answer;
 
 fn say(text: &[u8]) {
@@ -16,241 +18,162 @@ fn say(text: &[u8]) {
 }
 
 fn number(n: u32) {
-    io::print_decimal(1, n as u64);
+    io::print_decimal(1, u64::from(n));
 }
 
-fn both(a: bool, b: bool) -> bool {
-    a && b
+// A sender as it came to a call, as the face left it, and as the call by value did.
+#[derive(Clone, Copy)]
+struct Left {
+    came: Sender,
+    lent: Sender,
+    by_value: Sender,
 }
 
-// A field's name where the lent sender's differs from what came; whether the call by value left the same.
-fn field(name: &[u8], came: f64, lent: f64, by_value: f64) -> bool {
-    if lent != came {
-        say(name);
+impl Left {
+    // A field's name where the lent sender's differs from what came; whether the call by value left the same.
+    fn field<T: PartialEq + Copy, F: Fn(Sender) -> T>(self, name: &[u8], pick: F) -> bool
+        requires { F.IsAlwaysCallable pick }
+    {
+        let lent = pick(self.lent);
+        if lent != pick(self.came) {
+            say(name);
+        }
+        lent == pick(self.by_value)
     }
-    lent == by_value
-}
 
-fn counted(name: &[u8], came: u32, lent: u32, by_value: u32) -> bool {
-    if lent != came {
-        say(name);
+    // The names of the fields that changed; whether all are as by value.
+    fn fields(self) -> bool {
+        let same = [
+            self.field(b" last_ack", |s| s.last_ack),
+            self.field(b" last_ack_send", |s| s.last_ack_send),
+            self.field(b" last_send", |s| s.last_send),
+            self.field(b" ack_ewma", |s| s.ack_ewma),
+            self.field(b" send_ewma", |s| s.send_ewma),
+            self.field(b" shortest", |s| s.rtt.map(|rtt| rtt.shortest)),
+            self.field(b" rtt", |s| s.rtt.map(|rtt| rtt.current)),
+            self.field(b" next_change", |s| s.next_change.map(|r| r.left)),
+            self.field(b" window", |s| s.window),
+            self.field(b" intersend_delay", |s| s.intersend_delay),
+        ];
+        !same.contains(&false)
     }
-    lent == by_value
-}
 
-fn moment(m: Moment) -> f64 {
-    match m {
-        Moment::Never => -1.0,
-        Moment::At(t) => t.held(),
-    }
-}
-
-fn average(a: Average) -> f64 {
-    match a {
-        Average::Empty => -1.0,
-        Average::Of(x) => x.0,
-    }
-}
-
-fn shortest(r: Rtt) -> f64 {
-    match r {
-        Rtt::Unknown => -1.0,
-        Rtt::Known(least, _) => least.0,
-    }
-}
-
-fn current(r: Rtt) -> f64 {
-    match r {
-        Rtt::Unknown => -1.0,
-        Rtt::Known(_, last) => last.0,
-    }
-}
-
-// 4294967295 where nothing is pending.
-fn left(p: Pending) -> u32 {
-    match p {
-        Pending::Idle => 4294967295,
-        Pending::Repeat(n, _) => n,
+    // The fields that changed, and whether all is as by value, the answer too.
+    fn told(self, same_answer: bool) {
+        say(b"; changed:");
+        if self.fields() && same_answer {
+            say(b"; as by value\n");
+        } else {
+            say(b"; NOT as by value\n");
+        }
     }
 }
 
-fn moments(came: Sender, lent: Sender, by_value: Sender) -> bool {
-    let a = came.last_ack;
-    let b = lent.last_ack;
-    let c = by_value.last_ack;
-    let acks = field(b" last_ack", moment(a), moment(b), moment(c));
-    let d = came.last_ack_send;
-    let e = lent.last_ack_send;
-    let f = by_value.last_ack_send;
-    let sends = field(b" last_ack_send", moment(d), moment(e), moment(f));
-    let g = came.last_send;
-    let h = lent.last_send;
-    let i = by_value.last_send;
-    let standing = field(b" last_send", moment(g), moment(h), moment(i));
-    both(acks, both(sends, standing))
+fn refused(r: Refusal) {
+    say(b"refused ");
+    number(r.number());
 }
 
-fn averages(came: Sender, lent: Sender, by_value: Sender) -> bool {
-    let a = came.ack_ewma;
-    let b = lent.ack_ewma;
-    let c = by_value.ack_ewma;
-    let acks = field(b" ack_ewma", average(a), average(b), average(c));
-    let d = came.send_ewma;
-    let e = lent.send_ewma;
-    let f = by_value.send_ewma;
-    let sends = field(b" send_ewma", average(d), average(e), average(f));
-    both(acks, sends)
-}
-
-fn trips(came: Sender, lent: Sender, by_value: Sender) -> bool {
-    let a = came.rtt;
-    let b = lent.rtt;
-    let c = by_value.rtt;
-    let least = field(b" shortest", shortest(a), shortest(b), shortest(c));
-    let last = field(b" rtt", current(a), current(b), current(c));
-    both(least, last)
-}
-
-fn pacing(came: Sender, lent: Sender, by_value: Sender) -> bool {
-    let a = came.next_change;
-    let b = lent.next_change;
-    let c = by_value.next_change;
-    let pending = counted(b" next_change", left(a), left(b), left(c));
-    let window = counted(b" window", came.window, lent.window, by_value.window);
-    let d = came.intersend_delay;
-    let e = lent.intersend_delay;
-    let f = by_value.intersend_delay;
-    let wait = field(b" intersend_delay", d.0, e.0, f.0);
-    both(pending, both(window, wait))
-}
-
-// The fields that changed, and whether all is as by value.
-fn fields(came: Sender, lent: Sender, by_value: Sender, same: bool) {
-    say(b"; changed:");
-    let a = moments(came, lent, by_value);
-    let b = averages(came, lent, by_value);
-    let c = trips(came, lent, by_value);
-    let d = pacing(came, lent, by_value);
-    if both(same, both(both(a, b), both(c, d))) {
-        say(b"; as by value\n");
-    } else {
-        say(b"; NOT as by value\n");
-    }
-}
-
-fn answered(answer: Answer) {
+fn answered(answer: Result<Answer, Refusal>) {
     match answer {
-        Answer::Window(w, clipped) => {
+        Ok(answer) => {
             say(b"window ");
-            number(w);
-            if clipped {
+            number(answer.window);
+            if answer.clipped {
                 say(b", clipped");
             }
         }
-        Answer::Refused(k) => {
-            say(b"refused ");
-            number(k);
+        Err(r) => refused(r),
+    }
+}
+
+// A sender at work: each call is made under a title on it and on a copy that is lent to the face, and what the face left is at work next.
+#[derive(Clone, Copy)]
+struct Working(Sender);
+
+impl Working {
+    // What the face answered and left, beside a reply by value.
+    fn told(self, lent: Lent<Result<Answer, Refusal>>, reply: Result<Held, Refusal>) -> Working {
+        answered(lent.answer);
+        Left {
+            came: self.0,
+            lent: lent.sender,
+            by_value: left_by(self.0, reply),
         }
+        .told(lent.answer == reply.map(|held| Answer::from(held)));
+        Working(lent.sender)
     }
-}
 
-fn alike(answer: Answer, reply: Reply) -> bool {
-    match answer {
-        Answer::Window(w, clipped) => match reply {
-            Reply::Taken(h) => both(h.window == w, h.clipped == clipped),
-            Reply::Refused(_) => false,
-        },
-        Answer::Refused(k) => match reply {
-            Reply::Taken(_) => false,
-            Reply::Refused(n) => n == k,
-        },
+    // An ack without a draw, over a tree.
+    fn ack(self, title: &[u8], tree: RuleTree, sent: f64, received: f64) -> Working {
+        say(title);
+        let lent = lent::ack(self.0, tree, sent, received, None);
+        self.told(lent, self.0.ack_received(tree, sent, received, None))
     }
-}
 
-fn kept(came: Sender, reply: Reply) -> Sender {
-    match reply {
-        Reply::Taken(h) => {
-            let s = h.sender;
-            s
+    fn send(self, title: &[u8], at: f64) -> Working {
+        say(title);
+        self.told(lent::send(self.0, at), self.0.packet_sent(at))
+    }
+
+    fn tick(self, title: &[u8]) -> Working {
+        say(title);
+        let Held { sender, window, .. } = lent::tick(self.0);
+        let held = self.0.tick();
+        say(b"window ");
+        number(window);
+        Left {
+            came: self.0,
+            lent: sender,
+            by_value: held.sender,
         }
-        Reply::Refused(_) => came,
+        .told(window == held.window);
+        Working(sender)
     }
 }
 
-fn told(title: &[u8], came: Sender, lent: Lent, reply: Reply) -> Sender {
-    say(title);
-    let answer = lent.answer;
-    answered(answer);
-    let by_value = kept(came, reply);
-    let left = lent.sender;
-    fields(came, left, by_value, alike(answer, reply));
-    left
+// A tree of one leaf, whose action adds to the window and waits 0.25 s.
+fn adds(increment: i32) -> Result<RuleTree, Refusal> {
+    RuleTree::new(Point::usual_ends(), Action::new(1.0, increment, 0.25))
 }
 
-// An ack over a tree of one leaf, whose action adds to the window and waits 0.25 s.
-fn ack_by(title: &[u8], s: Sender, increment: i32, sent: f64, received: f64) -> Sender {
-    let action = Action::new(1.0, increment, 0.25);
-    let tree = RuleTree::new(Point::usual_ends(), action).tree;
-    let lent = lent::ack(s, tree, sent, received, Draw::Absent);
-    let reply = s.ack_received(tree, sent, received, Draw::Absent);
-    told(title, s, lent, reply)
-}
-
-fn ack(title: &[u8], s: Sender, sent: f64, received: f64) -> Sender {
-    ack_by(title, s, 10, sent, received)
-}
-
-fn send(title: &[u8], s: Sender, at: f64) -> Sender {
-    let lent = lent::send(s, at);
-    let reply = s.packet_sent(at);
-    told(title, s, lent, reply)
-}
-
-fn tick(title: &[u8], s: Sender) -> Sender {
-    say(title);
-    let lent = lent::tick(s);
-    let held = s.tick();
-    say(b"window ");
-    number(lent.window);
-    let left = lent.sender;
-    let by_value = held.sender;
-    fields(s, left, by_value, lent.window == held.window);
-    left
-}
-
-fn start() -> Sender {
-    match Sender::new(RepeatMode::Always(0)) {
-        Made::Ready(s) => s,
-        Made::Refused(_) => sender::inner::memory::fresh(RepeatMode::Off),
-    }
+fn all() -> Result<(), Refusal> {
+    let ten = adds(10)?;
+    let less = adds(-41)?;
+    let more = adds(999999)?;
+    Working(Sender::new(RepeatMode::Always(0))?)
+        .send(b"send at NaN: ", 0.0 / 0.0)
+        .ack(b"ack at 1 s of what was sent at 0: ", ten, 0.0, 1.0)
+        .send(b"send at 2 s: ", 2.0)
+        .ack(b"ack at NaN: ", ten, 1.0, 0.0 / 0.0)
+        .ack(
+            b"ack at 2.5 s, by the repeat, while the send stands: ",
+            ten,
+            1.0,
+            2.5,
+        )
+        .tick(b"tick: ")
+        .ack(b"ack at 3 s of what was sent at 3 s: ", ten, 3.0, 3.0)
+        .ack(b"ack at 3 s of what was sent at 2 s: ", ten, 2.0, 3.0)
+        .send(b"send just below 0: ", -0.000001)
+        .tick(b"tick: ")
+        .ack(b"ack at 4 s, by the repeat: ", ten, 3.0, 4.0)
+        .ack(b"ack at 5 s, 41 less: ", less, 4.0, 5.0)
+        .ack(b"ack at 6 s, 41 less by the repeat: ", ten, 5.0, 6.0)
+        .ack(b"ack at 7 s, 999,999 more: ", more, 6.0, 7.0)
+        .send(b"send at 7 s: ", 7.0)
+        .ack(
+            b"ack at 8 s, 999,999 more by the repeat, while the send stands: ",
+            ten,
+            7.0,
+            8.0,
+        );
+    Ok(())
 }
 
 fn main() {
-    let s = start();
-    let a = send(b"send at NaN: ", s, 0.0 / 0.0);
-    let b = ack(b"ack at 1 s of what was sent at 0: ", a, 0.0, 1.0);
-    let c = send(b"send at 2 s: ", b, 2.0);
-    let d = ack(b"ack at NaN: ", c, 1.0, 0.0 / 0.0);
-    let e = ack(
-        b"ack at 2.5 s, by the repeat, while the send stands: ",
-        d,
-        1.0,
-        2.5,
-    );
-    let f = tick(b"tick: ", e);
-    let g = ack(b"ack at 3 s of what was sent at 3 s: ", f, 3.0, 3.0);
-    let h = ack(b"ack at 3 s of what was sent at 2 s: ", g, 2.0, 3.0);
-    let i = send(b"send just below 0: ", h, -0.000001);
-    let j = tick(b"tick: ", i);
-    let k = ack(b"ack at 4 s, by the repeat: ", j, 3.0, 4.0);
-    let l = ack_by(b"ack at 5 s, 41 less: ", k, -41, 4.0, 5.0);
-    let m = ack(b"ack at 6 s, 41 less by the repeat: ", l, 5.0, 6.0);
-    let n = ack_by(b"ack at 7 s, 999,999 more: ", m, 999999, 6.0, 7.0);
-    let o = send(b"send at 7 s: ", n, 7.0);
-    ack(
-        b"ack at 8 s, 999,999 more by the repeat, while the send stands: ",
-        o,
-        7.0,
-        8.0,
-    );
+    if let Err(r) = all() {
+        refused(r);
+        say(b"\n");
+    }
 }

@@ -6,6 +6,7 @@ use remy::action::Action;
 use remy::cube::Cube;
 use remy::point::Point;
 
+// What this program prints with. Each has its own: a public function of a library has a contract that gives its answer, and printing has none.
 fn number(n: u64) {
     io::print_decimal(1, n);
 }

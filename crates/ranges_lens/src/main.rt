@@ -9,6 +9,7 @@ use remy::action::Action;
 use remy::point::Point;
 use rule_tree::RuleTree;
 
+// What this program prints with. Each has its own: a public function of a library has a contract that gives its answer, and printing has none.
 fn say(text: &[u8]) {
     io::write_all(1, text);
 }
@@ -43,6 +44,7 @@ fn show(found: Result<u16, Refusal>) {
     say(b":");
 }
 
+// A range and ranges by their parts: literals of them would take ten lines at a call.
 fn range(lowest: f64, highest: f64) -> Range {
     Range { lowest, highest }
 }
@@ -78,33 +80,21 @@ fn at(t: RuleTree, ack: f64, send: f64, ratio: f64) {
 }
 
 // One leaf with these upper ends.
-fn boxed(ends: Point) -> RuleTree {
-    let a = Action::new(1.0, 7, 0.0);
-    let made = RuleTree::new(ends, a);
-    made.tree
-}
-
-fn split(t: RuleTree, leaf: u16) -> RuleTree {
-    let s = t.split(leaf);
-    s.tree
-}
-
-// The root split.
-fn once(ends: Point) -> RuleTree {
-    split(boxed(ends), 0)
+fn boxed(ends: Point) -> Result<RuleTree, Refusal> {
+    RuleTree::new(ends, Action::new(1.0, 7, 0.0))
 }
 
 // 60 splits: of node 0, then of its child with this number, then of that one's, and so on.
-fn deep(ends: Point, child: u16) -> RuleTree
+fn deep(ends: Point, child: u16) -> Result<RuleTree, Refusal>
     requires { child ≤ 8 }
 {
-    let mut t = boxed(ends);
+    let mut t = boxed(ends)?;
     let mut leaf: u16 = 0;
     for k in 0..60 {
-        t = split(t, leaf);
+        t = t.split(leaf)?;
         leaf = child + 8 * k;
     }
-    t
+    Ok(t)
 }
 
 fn equal_ends(t: RuleTree) {
@@ -182,10 +172,10 @@ fn refusals(t: RuleTree) {
     look(bad, ranges_of(all, range(2.0, 1.0), all));
 }
 
-fn main() {
+fn show_all() -> Result<(), Refusal> {
     let all = range(-1.0 / 0.0, 1.0 / 0.0);
-    let leaf = boxed(Point::usual_ends());
-    let one = once(Point::usual_ends());
+    let leaf = boxed(Point::usual_ends())?;
+    let one = leaf.split(0)?;
     say(b"-- one leaf\n");
     look(leaf, ranges_of(all, all, all));
     at(leaf, 600.0, 0.0, 0.0);
@@ -198,14 +188,14 @@ fn main() {
     say(b"-- refused\n");
     refusals(one);
     say(b"-- 60 splits at 0, ends 1: all up to 2^-60, and at 0\n");
-    let low = deep(Point::new(1.0, 1.0, 1.0), 1);
+    let low = deep(Point::new(1.0, 1.0, 1.0), 1)?;
     let tiny = range(0.0, 1.0 / 1152921504606846976.0);
     look(low, ranges_of(tiny, tiny, tiny));
     at(low, 0.0, 0.0, 0.0);
     say(
         b"-- 60 splits at the upper ends 1, the later ones of empty cubes: from 1 - 2^-53, from 1 - 2^-52, and at 1 - 2^-53\n",
     );
-    let high = deep(Point::new(1.0, 1.0, 1.0), 8);
+    let high = deep(Point::new(1.0, 1.0, 1.0), 8)?;
     let last = range(0.9999999999999999, 2.0);
     look(high, ranges_of(last, last, last));
     let more = range(0.9999999999999998, 2.0);
@@ -216,4 +206,13 @@ fn main() {
         0.9999999999999999,
         0.9999999999999999,
     );
+    Ok(())
+}
+
+fn main() {
+    if let Err(refused) = show_all() {
+        say(b"refused ");
+        io::print_decimal(1, u64::from(refused.number()));
+        say(b"\n");
+    }
 }

@@ -1,9 +1,12 @@
 // The refusals of damaged records, and of bytes around each limit of the record's length.
 #![tactic(auto)]
 
-use record::Saved;
+ghost use Rattle.std.specs.Prelude.{◌≤◌};
+
+use refusal::Refusal;
 use remy::action::Action;
 use remy::point::Point;
+use rule_tree::NODES;
 use trainer::Trainer;
 use trainer::settings::Settings;
 
@@ -28,169 +31,155 @@ fn usual() -> Settings {
     }
 }
 
-// The line of what a save has answered.
-fn saved(s: Saved) {
-    match s {
-        Saved::Size(n) => {
-            io::write_all(1, b"saved ");
-            io::print_decimal(1, n as u64);
+// A trainer that splits once a stage: no rounds, no drill.
+fn splitting() -> Settings {
+    Settings {
+        rule_splits: 64,
+        optimization_rounds_per_split: 0,
+        drill_down: false,
+        ..usual()
+    }
+}
+
+// A trainer whose tree has 64 splits.
+fn full() -> Result<Trainer, Refusal> {
+    let mut t = Trainer::start(splitting())?;
+    let counts = [0u64; NODES];
+    for i in 0..64 {
+        t = t.answer_counts(&counts[..1 + 8 * i])?;
+    }
+    Ok(t)
+}
+
+// Saves a trainer, if there is one.
+fn saved(t: Result<Trainer, Refusal>, buf: &mut [u8]) -> Result<usize, Refusal> {
+    record::save(t?, buf)
+}
+
+// Printing goes by io's bytes and digits: std's macros lean on two more of the kit's C functions, and nothing more is to be trusted.
+fn say(text: &[u8]) {
+    io::write_all(1, text);
+}
+
+fn number(n: u64) {
+    io::print_decimal(1, n);
+}
+
+// The line of what a save answers.
+fn show(saved: Result<usize, Refusal>) {
+    match saved {
+        Ok(size) => {
+            say(b"saved ");
+            number(size as u64);
         }
-        Saved::Refused(k) => {
-            io::write_all(1, b"refused ");
-            io::print_decimal(1, k as u64);
+        Err(refusal) => {
+            say(b"refused ");
+            number(u64::from(refusal.number()));
         }
     }
-    end();
+    say(b"\n");
 }
 
 // The record of a fresh trainer, and a byte of 0 after it.
 fn fresh() -> [u8; 197] {
-    let a = Trainer::start(usual());
-    let t = a.trainer;
     let mut buf = [0u8; 197];
-    saved(record::save(t, &mut buf));
+    let answer = saved(Trainer::start(usual()), &mut buf);
+    show(answer);
     buf
-}
-
-// A trainer that splits once a stage: no rounds, no drill.
-fn splitting() -> Settings {
-    let mut s = usual();
-    s.rule_splits = 64;
-    s.optimization_rounds_per_split = 0;
-    s.drill_down = false;
-    s
-}
-
-// The trainer after an answer with the first n counts.
-fn answered(t: Trainer, counts: &[u64], n: usize) -> Trainer {
-    if n <= counts.len() {
-        return t.answer_counts(&counts[0..n]).trainer;
-    }
-    t
-}
-
-// A trainer whose tree has 64 splits.
-fn full() -> Trainer {
-    let mut t = Trainer::start(splitting()).trainer;
-    let counts = [0u64; 513];
-    let mut i: usize = 0;
-    while i < 64 {
-        t = answered(t, &counts, 1 + 8 * i);
-        i += 1;
-    }
-    t
 }
 
 // The longest record, into a buffer of a byte less and into one of its size.
 fn longest_record() {
     let t = full();
     let mut short = [0u8; 11075];
-    saved(record::save(t, &mut short));
+    show(saved(t, &mut short));
     let mut exact = [0u8; 11076];
-    saved(record::save(t, &mut exact));
-}
-
-fn end() {
-    io::write_all(1, b"\n");
+    show(saved(t, &mut exact));
 }
 
 // The refusal of a load, 0 for none.
 fn loaded(bytes: &[u8]) {
-    io::write_all(1, b" ");
-    io::print_decimal(1, record::load(bytes).refused as u64);
-}
-
-fn next(x: u8) -> u8 {
-    if x < 255 { x + 1 } else { 0 }
-}
-
-fn before(x: u8) -> u8 {
-    if x > 0 { x - 1 } else { 255 }
-}
-
-// The first n bytes.
-fn first(r: &[u8], n: usize) {
-    if n <= r.len() {
-        loaded(&r[0..n]);
+    say(b" ");
+    match record::load(bytes) {
+        Ok(_) => number(0),
+        Err(refusal) => number(u64::from(refusal.number())),
     }
 }
 
-fn of_196(r: &[u8; 197]) {
-    first(r, 196);
+// The refusal of the record before the last byte.
+fn record_in(r: &[u8; 197]) {
+    loaded(&r[..196]);
 }
 
-// Byte i one more, and one less.
-fn damaged(r: [u8; 197], i: usize) {
-    let mut more = r;
-    let mut less = r;
-    if i < 196 {
-        more[i] = next(r[i]);
-        less[i] = before(r[i]);
-    }
-    io::write_all(1, b"byte ");
-    io::print_decimal(1, i as u64);
-    of_196(&more);
-    of_196(&less);
-    end();
-}
-
-fn each(r: [u8; 197]) {
-    let mut i: usize = 0;
-    while i < 196 {
-        damaged(r, i);
-        i += 1;
+// Each byte of the record one more, and one less.
+fn each(r: &[u8; 197]) {
+    for i in 0..196 {
+        let mut more = *r;
+        more[i] = r[i].wrapping_add(1);
+        let mut less = *r;
+        less[i] = r[i].wrapping_sub(1);
+        say(b"byte ");
+        number(i as u64);
+        record_in(&more);
+        record_in(&less);
+        say(b"\n");
     }
 }
 
-fn cut(r: &[u8; 197], n: usize) {
-    io::write_all(1, b"first ");
-    io::print_decimal(1, n as u64);
-    first(r, n);
-    end();
+fn cut(bytes: &[u8]) {
+    say(b"first ");
+    number(bytes.len() as u64);
+    loaded(bytes);
+    say(b"\n");
+}
+
+fn whole(r: &[u8; 197]) {
+    cut(&r[..196]);
+}
+
+// The first bytes alone, and all but the last byte of the record.
+fn shorter(r: &[u8; 197]) {
+    for n in 0..6 {
+        cut(&r[..n]);
+    }
+    cut(&r[..195]);
 }
 
 // A byte more than the length says, and a length of one more with all its bytes.
-fn longer(r: [u8; 197]) {
-    let mut b = r;
-    cut(&b, 197);
-    b[3] = 193;
-    cut(&b, 197);
+fn longer(r: &[u8; 197]) {
+    cut(r);
+    let mut longer = *r;
+    longer[3] = 193;
+    cut(&longer);
+}
+
+// A record of N bytes, of zeros but for its length and its version.
+fn zeros<const N: usize>(version: u8) -> [u8; N]
+    requires { (5 ≤ N) × (N ≤ 65536) }
+{
+    let mut b = [0u8; N];
+    let n = (N - 4) as u32;
+    b[..4].copy_from_slice(&n.to_be_bytes());
+    b[4] = version;
+    b
 }
 
 // The longest length that is read, and one more, each with all its bytes.
 fn longest() {
-    let mut b = [0u8; 16388];
-    b[2] = 64;
-    io::write_all(1, b"16384");
-    loaded(&b);
-    b[4] = 1;
-    loaded(&b);
-    end();
-}
-
-fn too_long() {
-    let mut b = [0u8; 16389];
-    b[2] = 64;
-    b[3] = 1;
-    b[4] = 1;
-    io::write_all(1, b"16385");
-    loaded(&b);
-    end();
+    say(b"16384");
+    loaded(&zeros::<16388>(0));
+    loaded(&zeros::<16388>(1));
+    say(b"\n16385");
+    loaded(&zeros::<16389>(1));
+    say(b"\n");
 }
 
 fn main() {
     let r = fresh();
-    cut(&r, 196);
-    each(r);
-    cut(&r, 0);
-    cut(&r, 1);
-    cut(&r, 2);
-    cut(&r, 3);
-    cut(&r, 4);
-    cut(&r, 5);
-    cut(&r, 195);
-    longer(r);
+    whole(&r);
+    each(&r);
+    shorter(&r);
+    longer(&r);
     longest();
-    too_long();
     longest_record();
 }

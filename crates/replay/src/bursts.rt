@@ -1,93 +1,51 @@
 // A burst of acks, and the line of what it did.
-ghost use Rattle.std.specs.Prelude.{◌+◌, ◌*◌, ◌≤◌};
-ghost use Rattle.io.specs.Counts.{IsPrefixLen};
-
 use crate::calls::Replay;
-use crate::{input, lines};
-use sender::{Ack, Burst, BurstReply, Draw, Sender};
+use crate::lines::Listed;
+use host_sender::inner::run::ack_at;
+use refusal::Refusal;
+use sender::Ack;
+use wire::inner::read::short_at;
 
-// How many acks the fields hold, 21 bytes each; what follows them says how long the lent lists are.
-fn count(fields: &[u8]) -> usize
-    ensures { result ≤ 600 }
-{
-    let n = fields.len() / 21;
-    if n <= 600 { n } else { 600 }
-}
+// The bytes of an ack, and the most acks that a script gives at once.
+pub(crate) const ACK_SIZE: usize = 21;
 
-fn ack_at(bytes: &[u8], at: usize) -> Ack
-    requires { at + 21 ≤ 65536 }
-{
-    let sent = input::float_at(bytes, at);
-    let received = input::float_at(bytes, at + 8);
-    let draw = input::draw_at(bytes, at + 16);
-    Ack {
-        sent,
-        received,
-        draw,
-    }
-}
+pub(crate) const MOST_ACKS: usize = 600;
 
-// The acks; of more than 256 the first 256 stand in the list.
-fn burst_at(fields: &[u8], count: usize) -> Burst {
+// The acks, in an array with room for any burst. host_burst has its like, for 256 of them, with a contract of which they are.
+fn acks_at(list: &[u8]) -> [Ack; MOST_ACKS] {
     let none = Ack {
         sent: 0.0,
         received: 0.0,
-        draw: Draw::Absent,
+        draw: None,
     };
-    let mut acks = [none; 256];
-    let mut i: usize = 0;
-    while i < 256 {
-        acks[i] = ack_at(fields, 21 * i);
-        i += 1;
+    let mut acks = [none; MOST_ACKS];
+    for (ack, bytes) in acks.iter_mut().zip(list.chunks_exact(ACK_SIZE)) {
+        *ack = ack_at(bytes, 0);
     }
-    Burst { count, acks }
+    acks
 }
 
-// n, or the number of the windows where that is less.
-fn among(n: usize, windows: &[u32]) -> usize
-    ensures { IsPrefixLen result windows.now }
-{
-    if n <= windows.len() { n } else { windows.len() }
-}
-
-fn sender_of(reply: BurstReply, old: Sender) -> Sender {
-    match reply {
-        BurstReply::Done(ran) => ran.sender,
-        BurstReply::Refused(_) => old,
+impl Replay {
+    // What follows the acks says how long the lent lists are. Longer ones than any burst needs are lent as ones of that length.
+    pub(crate) fn burst(&mut self, list: &[u8]) -> Result<(), Refusal> {
+        let n = (list.len() / ACK_SIZE).min(MOST_ACKS);
+        let lent = usize::from(short_at(list, ACK_SIZE * n)).min(MOST_ACKS);
+        let acks = acks_at(list);
+        // Lists apart, and flags as bytes, since a burst is lent them so.
+        let mut windows = [0u32; MOST_ACKS];
+        let mut clipped = [0u8; MOST_ACKS];
+        let ran = self.sender.burst(
+            self.trainer.tree,
+            &acks[..n],
+            &mut windows[..lent],
+            &mut clipped[..lent],
+        )?;
+        self.sender = ran.sender;
+        let stopped = ran.stopped.map_or(0, Refusal::number);
+        let k = ran.taken.min(MOST_ACKS);
+        let windows = Listed(&windows[..k]);
+        self.out
+            .line(format_args!("burst {} {stopped}{windows}", ran.taken));
+        Ok(())
     }
-}
-
-fn reply_line(out: &mut [u8], at: usize, reply: BurstReply, windows: &[u32]) -> usize {
-    match reply {
-        BurstReply::Done(ran) => {
-            let k = among(ran.taken, windows);
-            lines::burst(out, at, ran.taken, ran.stopped, &windows[..k])
-        }
-        BurstReply::Refused(number) => lines::refused(out, at, number),
-    }
-}
-
-// The burst on the sender, with the lists that are lent.
-fn run(mut r: Replay, b: Burst, windows: &mut [u32], clipped: &mut [u8], out: &mut [u8]) -> Replay {
-    let trainer = r.trainer;
-    let tree = trainer.tree;
-    let s = r.sender;
-    let reply = s.burst(tree, b, windows, clipped);
-    let at = reply_line(out, r.at, reply, windows);
-    let after = sender_of(reply, s);
-    r.at = lines::sender(out, at, after);
-    r.sender = after;
-    r
-}
-
-// No burst that is read has more than 600 acks, so longer lists are lent as ones of 600.
-pub(crate) fn burst(r: Replay, fields: &[u8], out: &mut [u8]) -> Replay {
-    let n = count(fields);
-    let places = input::short_at(fields, 21 * n) as usize;
-    let mut windows = [0u32; 600];
-    let mut clipped = [0u8; 600];
-    let k = among(places, &windows);
-    let l = input::within(places, &clipped);
-    let b = burst_at(fields, n);
-    run(r, b, &mut windows[..k], &mut clipped[..l], out)
 }

@@ -1,391 +1,284 @@
 // The calls, each with the lines that it prints.
-use crate::{bursts, draws, input, lines, trees};
-use ranges::Ranges;
-use record::Saved;
-use rule_tree::{AugmentedRuleTree, Changed, RuleTree, Tallied};
-use sender::{Reply, Sender};
-use trainer::{Answered, Trainer, candidates};
+ghost use Rattle.std.specs.Prelude.{◌≤◌};
+
+use crate::input::{self, Call, Code};
+use crate::lines::{Hex, Listed, Maybe, Shown};
+use crate::output::Output;
+use host_sender::inner::run::ack_at;
+use record::inner::layout::{Layout, VERSION};
+use record::inner::read::settings_at;
+use refusal::Refusal;
+use remy::action::Action;
+use rule_tree::{AugmentedRuleTree, NODES, RuleTree};
+use sender::{Event, Held, Sender};
+use trainer::{Trainer, candidates};
+use wire::inner::read::{action_at, byte_at, counts_at, float_at, point_at, short_at, word_at};
 use xoshiro::State;
 
-// What the calls act on: the trainer, the sender, the generator and a list of counts, one a node. With it
-// the place in the output, and whether the script is over.
-#[derive(Clone, Copy)]
+// The most counts that a script gives.
+pub(crate) const MOST_COUNTS: usize = 600;
+
+// What the calls act on: the trainer, the sender, the generator, a list of counts, one a node, and the lines.
+// The counts have room for the largest tree. How many there are the trainer's tree says, and a list of that length would say it twice.
+#[derive(Drop)]
 pub(crate) struct Replay {
     pub(crate) trainer: Trainer,
     pub(crate) sender: Sender,
     pub(crate) generator: State,
-    pub(crate) counts: [u64; 513],
-    pub(crate) at: usize,
-    pub(crate) over: bool,
+    pub(crate) counts: [u64; NODES],
+    pub(crate) out: Output,
 }
 
-pub(crate) fn printed(mut r: Replay, at: usize) -> Replay {
-    r.at = at;
-    r
-}
-
-fn ended(mut r: Replay, at: usize) -> Replay {
-    r.at = at;
-    r.over = true;
-    r
-}
-
-// The end of a script that is cut or no script.
-pub(crate) fn stop(r: Replay, out: &mut [u8]) -> Replay {
-    let at = lines::words(out, r.at, b"bad script");
-    ended(r, at)
-}
-
-// The line of what a save has answered.
-fn saved_line(out: &mut [u8], at: usize, saved: Saved, bytes: &[u8]) -> usize {
-    match saved {
-        Saved::Size(n) => {
-            let k = input::within(n, bytes);
-            lines::record(out, at, b"record", &bytes[..k])
-        }
-        Saved::Refused(number) => lines::refused(out, at, number),
-    }
-}
-
-// The end of the script.
-pub(crate) fn finish(r: Replay, out: &mut [u8]) -> Replay {
-    let trainer = r.trainer;
-    let mut bytes = io::large_buffer();
-    let saved = record::save(trainer, &mut bytes);
-    let at = saved_line(out, r.at, saved, &bytes);
-    ended(r, at)
-}
-
-// The counts start anew where the tree has another number of nodes.
-fn with_trainer(mut r: Replay, trainer: Trainer, at: usize) -> Replay {
-    let old = r.trainer;
-    if old.tree.splits != trainer.tree.splits {
-        r.counts = [0; 513];
-    }
-    r.trainer = trainer;
-    r.at = at;
-    r
-}
-
-// After the line of a call that gave a trainer: its question.
-fn taken(r: Replay, trainer: Trainer, at: usize, out: &mut [u8]) -> Replay {
-    let at = lines::question(out, at, trainer);
-    with_trainer(r, trainer, at)
-}
-
-// A call that was refused: the trainer stays, and asks again.
-fn refused(r: Replay, number: u32, out: &mut [u8]) -> Replay {
-    let trainer = r.trainer;
-    let at = lines::refused(out, r.at, number);
-    let at = lines::question(out, at, trainer);
-    printed(r, at)
-}
-
-fn answered(r: Replay, a: Answered, text: &[u8], out: &mut [u8]) -> Replay {
-    if a.refused == 0 {
-        let trainer = a.trainer;
-        let at = lines::words(out, r.at, text);
-        return taken(r, trainer, at, out);
-    }
-    refused(r, a.refused, out)
-}
-
-fn answer_counts(r: Replay, fields: &[u8], out: &mut [u8]) -> Replay {
-    let trainer = r.trainer;
-    let numbers = input::numbers_at(fields);
-    let k = input::among(fields.len() / 8, &numbers);
-    let a = trainer.answer_counts(&numbers[..k]);
-    answered(r, a, b"ok", out)
-}
-
-fn answer_score(r: Replay, fields: &[u8], out: &mut [u8]) -> Replay {
-    let trainer = r.trainer;
-    let a = trainer.answer_score(input::float_at(fields, 0));
-    answered(r, a, b"ok", out)
+// One count a node, in a tree of so many splits.
+fn counts_of(splits: u16) -> usize
+    ensures { result ≤ 513 }
+{
+    (1 + 8 * usize::from(splits)).min(NODES)
 }
 
 // New settings. A drill byte that is neither 0 nor 1 is refused with them.
-fn change_settings(r: Replay, fields: &[u8], out: &mut [u8]) -> Replay {
-    let trainer = r.trainer;
-    if 1 < input::byte_at(fields, 12) {
-        return refused(r, refusal::BAD_SETTINGS, out);
+fn with_settings(t: Trainer, fields: &[u8]) -> Result<Trainer, Refusal> {
+    if byte_at(fields, 12) > 1 {
+        return Err(Refusal::BadSettings);
     }
-    let a = trainer.change_settings(input::settings_at(fields));
-    answered(r, a, b"ok", out)
+    t.change_settings(settings_at(fields, Layout::of_version(VERSION), 0))
 }
 
-// The load of a reload, of the bytes that were saved.
-fn load_back(r: Replay, record: &[u8], out: &mut [u8]) -> Replay {
-    let a = record::load(record);
-    if a.refused == 0 {
-        let trainer = a.trainer;
-        let at = lines::record(out, r.at, b"saved", record);
-        return taken(r, trainer, at, out);
-    }
-    refused(r, a.refused, out)
+// The record of a trainer, in lent bytes.
+fn saved<'a>(t: Trainer, bytes: &'a mut [u8]) -> Result<&'a [u8], Refusal> {
+    let n = record::save(t, bytes)?.min(bytes.len());
+    Ok(&bytes[..n])
 }
 
-// A save into the first bytes of a buffer, and the load of what was written.
-fn reload_by(r: Replay, length: usize, bytes: &mut [u8], out: &mut [u8]) -> Replay {
-    let trainer = r.trainer;
-    let lent = input::within(length, bytes);
-    let saved = record::save(trainer, &mut bytes[..lent]);
-    match saved {
-        Saved::Size(n) => {
-            let k = input::within(n, bytes);
-            load_back(r, &bytes[..k], out)
+impl Replay {
+    // What the trainer asks.
+    pub(crate) fn ask(&mut self) {
+        match self.trainer.question() {
+            Ok(question) => self.out.line(Shown(question)),
+            Err(why) => self.out.refused(why),
         }
-        Saved::Refused(number) => refused(r, number, out),
     }
-}
 
-fn reload(r: Replay, fields: &[u8], out: &mut [u8]) -> Replay {
-    let length = input::short_at(fields, 0) as usize;
-    let mut bytes = io::large_buffer();
-    reload_by(r, length, &mut bytes, out)
-}
-
-fn load(r: Replay, fields: &[u8], out: &mut [u8]) -> Replay {
-    let a = record::load(fields);
-    answered(r, a, b"loaded", out)
-}
-
-// The sender after a reply.
-fn sender_of(reply: Reply, old: Sender) -> Sender {
-    match reply {
-        Reply::Taken(held) => held.sender,
-        Reply::Refused(_) => old,
-    }
-}
-
-fn reply_line(out: &mut [u8], at: usize, reply: Reply) -> usize {
-    match reply {
-        Reply::Taken(held) => lines::window(out, at, held.window),
-        Reply::Refused(number) => lines::refused(out, at, number),
-    }
-}
-
-pub(crate) fn replied(mut r: Replay, reply: Reply, out: &mut [u8]) -> Replay {
-    let old = r.sender;
-    let s = sender_of(reply, old);
-    let at = reply_line(out, r.at, reply);
-    r.at = lines::sender(out, at, s);
-    r.sender = s;
-    r
-}
-
-fn ack(r: Replay, fields: &[u8], out: &mut [u8]) -> Replay {
-    let trainer = r.trainer;
-    let tree = trainer.tree;
-    let s = r.sender;
-    let sent = input::float_at(fields, 0);
-    let received = input::float_at(fields, 8);
-    let draw = input::draw_at(fields, 16);
-    let reply = s.ack_received(tree, sent, received, draw);
-    replied(r, reply, out)
-}
-
-fn send(r: Replay, fields: &[u8], out: &mut [u8]) -> Replay {
-    let s = r.sender;
-    let reply = s.packet_sent(input::float_at(fields, 0));
-    replied(r, reply, out)
-}
-
-fn tick(r: Replay, out: &mut [u8]) -> Replay {
-    let s = r.sender;
-    let held = s.tick();
-    replied(r, Reply::Taken(held), out)
-}
-
-fn wake(r: Replay, fields: &[u8], out: &mut [u8]) -> Replay {
-    let s = r.sender;
-    let found = s.next_tick(input::float_at(fields, 0));
-    let at = lines::wake(out, r.at, found);
-    printed(r, at)
-}
-
-fn lookup(r: Replay, fields: &[u8], out: &mut [u8]) -> Replay {
-    let trainer = r.trainer;
-    let tree = trainer.tree;
-    let opened = tree.action(input::point_at(fields, 0));
-    let found = opened.found;
-    let at = lines::looked(out, r.at, found);
-    printed(r, at)
-}
-
-// The cubes that a lookup tests.
-fn cubes_tested(r: Replay, fields: &[u8], out: &mut [u8]) -> Replay {
-    let trainer = r.trainer;
-    let tree = trainer.tree;
-    let opened = tree.action(input::point_at(fields, 0));
-    let found = opened.found;
-    let at = lines::tested(out, r.at, found, opened.tested);
-    printed(r, at)
-}
-
-fn lookup_replaced(r: Replay, fields: &[u8], out: &mut [u8]) -> Replay {
-    let trainer = r.trainer;
-    let tree = trainer.tree;
-    let leaf = input::short_at(fields, 0) as u16;
-    let action = input::action_at(fields, 2);
-    let other = AugmentedRuleTree { tree, leaf, action };
-    let found = other.action(input::point_at(fields, 22));
-    let at = lines::looked(out, r.at, found);
-    printed(r, at)
-}
-
-// A tally into the counts of the tree's nodes, and its line.
-fn tally_line(out: &mut [u8], at: usize, t: RuleTree, counts: &mut [u64], fields: &[u8]) -> usize {
-    let k = input::among(1 + 8 * (t.splits as usize), counts);
-    let tallied = t.tally(&mut counts[..k], input::point_at(fields, 0));
-    match tallied {
-        Tallied::Counted(node) => lines::counted(out, at, node, counts),
-        Tallied::Nothing => lines::words(out, at, b"none"),
-        Tallied::Refused(number) => lines::refused(out, at, number),
-    }
-}
-
-fn tally(mut r: Replay, fields: &[u8], out: &mut [u8]) -> Replay {
-    let trainer = r.trainer;
-    let tree = trainer.tree;
-    let mut counts = r.counts;
-    let at = tally_line(out, r.at, tree, &mut counts, fields);
-    r.counts = counts;
-    r.at = at;
-    r
-}
-
-fn candidate(r: Replay, fields: &[u8], out: &mut [u8]) -> Replay {
-    let trainer = r.trainer;
-    let s = trainer.settings;
-    let action = input::action_at(fields, 0);
-    let k = input::word_at(fields, 20) as u32;
-    let at = lines::candidate(out, r.at, candidates::candidate_at(s, action, k));
-    printed(r, at)
-}
-
-fn print_tree(r: Replay, out: &mut [u8]) -> Replay {
-    let trainer = r.trainer;
-    let tree = trainer.tree;
-    let at = lines::tree(out, r.at, tree);
-    printed(r, at)
-}
-
-fn undone_line(out: &mut [u8], at: usize, c: Changed) -> usize {
-    if c.refused == 0 {
-        let tree = c.tree;
-        return lines::tree(out, at, tree);
-    }
-    lines::refused(out, at, c.refused)
-}
-
-// The newest split taken back, on a copy of the tree: the trainer stays.
-fn undo_split(r: Replay, out: &mut [u8]) -> Replay {
-    let trainer = r.trainer;
-    let tree = trainer.tree;
-    let at = undone_line(out, r.at, tree.undo_split());
-    printed(r, at)
-}
-
-// The leaves within ranges, into a lent list, and their line.
-fn leaves_line(out: &mut [u8], at: usize, t: RuleTree, r: Ranges, list: &mut [u16]) -> usize {
-    match ranges::leaves_within(t, r, list) {
-        Ok(n) => {
-            let k = input::among_nodes(usize::from(n), list);
-            lines::leaves(out, at, n, &list[..k])
+    // The end of the script.
+    pub(crate) fn finish(&mut self) {
+        let mut bytes = io::large_buffer();
+        match saved(self.trainer, &mut bytes) {
+            Ok(record) => self.out.line(format_args!("record {}", Hex(record))),
+            Err(why) => self.out.refused(why),
         }
-        Err(why) => lines::refused(out, at, why.number()),
     }
-}
 
-// No tree has more than 513 leaves, so a longer list is lent as one of 513.
-fn leaves(r: Replay, fields: &[u8], out: &mut [u8]) -> Replay {
-    let trainer = r.trainer;
-    let tree = trainer.tree;
-    let known = input::ranges_at(fields, 0);
-    let mut list = [0u16; 513];
-    let k = input::among_nodes(input::short_at(fields, 48) as usize, &list);
-    let at = leaves_line(out, r.at, tree, known, &mut list[..k]);
-    printed(r, at)
-}
-
-fn equal_line(out: &mut [u8], at: usize, t: RuleTree, a: Answered) -> usize {
-    if a.refused == 0 {
-        let loaded = a.trainer;
-        let other = loaded.tree;
-        return lines::compared(out, at, t.equals(other));
+    // The counts start anew where the tree has another number of nodes.
+    fn take(&mut self, trainer: Trainer) {
+        if self.trainer.tree.splits != trainer.tree.splits {
+            self.counts = [0; NODES];
+        }
+        self.trainer = trainer;
     }
-    lines::refused(out, at, a.refused)
-}
 
-fn equal(r: Replay, fields: &[u8], out: &mut [u8]) -> Replay {
-    let trainer = r.trainer;
-    let tree = trainer.tree;
-    let at = equal_line(out, r.at, tree, record::load(fields));
-    printed(r, at)
-}
-
-// The window rule alone, of an action and a window.
-fn apply(r: Replay, fields: &[u8], out: &mut [u8]) -> Replay {
-    let action = input::action_at(fields, 0);
-    let window = input::word_at(fields, 20) as u32;
-    let at = lines::applied(out, r.at, action.applied(window));
-    printed(r, at)
-}
-
-fn next_list(r: Replay, fields: &[u8], out: &mut [u8]) -> Replay {
-    let at = trees::next_list(out, r.at, fields);
-    printed(r, at)
-}
-
-fn even_row(r: Replay, fields: &[u8], out: &mut [u8]) -> Replay {
-    let at = trees::even_row(out, r.at, fields);
-    printed(r, at)
-}
-
-fn trainer_call(r: Replay, code: u8, fields: &[u8], out: &mut [u8]) -> Replay {
-    match code {
-        1 => answer_counts(r, fields, out),
-        2 => answer_score(r, fields, out),
-        3 => reload(r, fields, out),
-        15 => change_settings(r, fields, out),
-        _ => load(r, fields, out),
+    // A trainer that is refused stays.
+    fn answered(&mut self, answer: Result<Trainer, Refusal>, word: &str) -> Result<(), Refusal> {
+        let trainer = answer?;
+        self.out.line(word);
+        self.take(trainer);
+        Ok(())
     }
-}
 
-fn sender_call(r: Replay, code: u8, fields: &[u8], out: &mut [u8]) -> Replay {
-    match code {
-        4 => ack(r, fields, out),
-        5 => send(r, fields, out),
-        6 => tick(r, out),
-        16 => bursts::burst(r, fields, out),
-        _ => wake(r, fields, out),
+    fn answer_counts(&mut self, fields: &[u8]) -> Result<(), Refusal> {
+        let n = (fields.len() / 8).min(MOST_COUNTS);
+        let counts: [u64; MOST_COUNTS] = counts_at(fields, n);
+        let answer = self.trainer.answer_counts(&counts[..n]);
+        self.answered(answer, "ok")
     }
-}
 
-fn tree_call(r: Replay, code: u8, fields: &[u8], out: &mut [u8]) -> Replay {
-    match code {
-        8 => lookup(r, fields, out),
-        9 => lookup_replaced(r, fields, out),
-        10 => tally(r, fields, out),
-        11 => candidate(r, fields, out),
-        12 => print_tree(r, out),
-        17 => undo_split(r, out),
-        18 => leaves(r, fields, out),
-        21 => cubes_tested(r, fields, out),
-        _ => equal(r, fields, out),
+    fn answer_score(&mut self, fields: &[u8]) -> Result<(), Refusal> {
+        let answer = self.trainer.answer_score(float_at(fields, 0));
+        self.answered(answer, "ok")
     }
-}
 
-// The call with a code and its fields.
-pub(crate) fn call(r: Replay, code: u8, fields: &[u8], out: &mut [u8]) -> Replay {
-    match code {
-        1 | 2 | 3 | 13 | 15 => trainer_call(r, code, fields, out),
-        4 | 5 | 6 | 7 | 16 => sender_call(r, code, fields, out),
-        19 | 20 | 23 | 24 => draws::call(r, code, fields, out),
-        22 => apply(r, fields, out),
-        25 => even_row(r, fields, out),
-        26 => next_list(r, fields, out),
-        _ => tree_call(r, code, fields, out),
+    fn change_settings(&mut self, fields: &[u8]) -> Result<(), Refusal> {
+        let answer = with_settings(self.trainer, fields);
+        self.answered(answer, "ok")
+    }
+
+    // A save into as many bytes as the script says, and the load of what was written.
+    fn reload(&mut self, fields: &[u8]) -> Result<(), Refusal> {
+        let mut bytes = io::large_buffer();
+        let lent = usize::from(short_at(fields, 0)).min(bytes.len());
+        let record = saved(self.trainer, &mut bytes[..lent])?;
+        let trainer = record::load(record)?;
+        self.out.line(format_args!("saved {}", Hex(record)));
+        self.take(trainer);
+        Ok(())
+    }
+
+    // A sender that is refused stays.
+    pub(crate) fn replied(&mut self, reply: Result<Held, Refusal>) -> Result<(), Refusal> {
+        let held = reply?;
+        self.out.line(format_args!("window {}", held.window));
+        self.sender = held.sender;
+        Ok(())
+    }
+
+    fn event(&mut self, e: Event) -> Result<(), Refusal> {
+        let reply = self.sender.event(self.trainer.tree, e);
+        self.replied(reply)
+    }
+
+    fn next_tick(&mut self, fields: &[u8]) -> Result<(), Refusal> {
+        let found = self.sender.next_tick(float_at(fields, 0))?;
+        self.out
+            .line(format_args!("wake {}", Maybe(found.map(Shown))));
+        Ok(())
+    }
+
+    fn looked(&mut self, found: Result<Option<Action>, Refusal>) -> Result<(), Refusal> {
+        match found? {
+            Some(a) => self.out.line(format_args!("action {}", Shown(a))),
+            None => self.out.line("none"),
+        }
+        Ok(())
+    }
+
+    fn lookup(&mut self, fields: &[u8]) -> Result<(), Refusal> {
+        let opened = self.trainer.tree.action(point_at(fields, 0));
+        self.looked(opened.found)
+    }
+
+    fn lookup_replaced(&mut self, fields: &[u8]) -> Result<(), Refusal> {
+        let other = AugmentedRuleTree {
+            tree: self.trainer.tree,
+            leaf: short_at(fields, 0),
+            action: action_at(fields, 2),
+        };
+        self.looked(other.action(point_at(fields, 22)))
+    }
+
+    // The cubes that a lookup tests.
+    fn cubes_tested(&mut self, fields: &[u8]) -> Result<(), Refusal> {
+        let opened = self.trainer.tree.action(point_at(fields, 0));
+        opened.found?;
+        self.out.line(format_args!("tested {}", opened.tested));
+        Ok(())
+    }
+
+    // A tally into the counts of the tree's nodes.
+    fn tally(&mut self, fields: &[u8]) -> Result<(), Refusal> {
+        let tree = self.trainer.tree;
+        let n = counts_of(tree.splits);
+        match tree.tally(&mut self.counts[..n], point_at(fields, 0))? {
+            Some(node) => {
+                let count = self.counts.get(usize::from(node)).copied().unwrap_or(0);
+                self.out.line(format_args!("counted {node} {count}"));
+            }
+            None => self.out.line("none"),
+        }
+        Ok(())
+    }
+
+    fn candidate(&mut self, fields: &[u8]) -> Result<(), Refusal> {
+        let action = action_at(fields, 0);
+        let k = word_at(fields, 20);
+        let found = candidates::candidate_at(self.trainer.settings, action, k)?;
+        self.out.line(Shown(found));
+        Ok(())
+    }
+
+    // Each node, and its cube.
+    fn print_tree(&mut self, t: RuleTree) -> Result<(), Refusal> {
+        let nodes = &t.nodes[..counts_of(t.splits)];
+        self.out.line(format_args!("tree {}", nodes.len()));
+        for (i, node) in (0..513u16).zip(nodes) {
+            let node = Shown(*node);
+            let cube = t.domain(i).ok();
+            self.out
+                .line(format_args!("{i} {node} {}", Maybe(cube.map(Shown))));
+        }
+        Ok(())
+    }
+
+    // The newest split taken back, on a copy of the tree: the trainer stays.
+    fn undo_split(&mut self) -> Result<(), Refusal> {
+        self.print_tree(self.trainer.tree.undo_split()?)
+    }
+
+    // The leaves within ranges, into a lent list. No tree has more leaves than nodes, so a longer list is lent as one of so many.
+    fn leaves(&mut self, fields: &[u8]) -> Result<(), Refusal> {
+        let mut list = [0u16; NODES];
+        let lent = usize::from(short_at(fields, 48)).min(NODES);
+        let within = input::ranges_at(fields);
+        let n = ranges::leaves_within(self.trainer.tree, within, &mut list[..lent])?;
+        let k = usize::from(n).min(NODES);
+        self.out
+            .line(format_args!("leaves {k}{}", Listed(&list[..k])));
+        Ok(())
+    }
+
+    // Whether the tree is that of a record's trainer.
+    fn equal(&mut self, record: &[u8]) -> Result<(), Refusal> {
+        let other = record::load(record)?.tree;
+        let equal = self.trainer.tree.equals(other)?;
+        self.out.line(format_args!("equal {}", u8::from(equal)));
+        Ok(())
+    }
+
+    // The window rule alone, of an action and a window.
+    fn apply(&mut self, fields: &[u8]) -> Result<(), Refusal> {
+        let action = action_at(fields, 0);
+        self.out.line(Shown(action.applied(word_at(fields, 20))));
+        Ok(())
+    }
+
+    // The line of a call; a refused one prints none.
+    fn answer(&mut self, call: Call<'_>) -> Result<(), Refusal> {
+        let Call { code, fields, list } = call;
+        match code {
+            Code::AnswerCounts => self.answer_counts(list),
+            Code::AnswerScore => self.answer_score(fields),
+            Code::Reload => self.reload(fields),
+            Code::Ack => self.event(Event::Ack(ack_at(fields, 0))),
+            Code::Send => self.replied(self.sender.packet_sent(float_at(fields, 0))),
+            Code::Tick => self.replied(Ok(self.sender.tick())),
+            Code::NextTick => self.next_tick(fields),
+            Code::Lookup => self.lookup(fields),
+            Code::LookupReplaced => self.lookup_replaced(fields),
+            Code::Tally => self.tally(fields),
+            Code::Candidate => self.candidate(fields),
+            Code::PrintTree => self.print_tree(self.trainer.tree),
+            Code::Load => self.answered(record::load(list), "loaded"),
+            Code::Equal => self.equal(list),
+            Code::ChangeSettings => self.change_settings(fields),
+            Code::Burst => self.burst(list),
+            Code::UndoSplit => self.undo_split(),
+            Code::Leaves => self.leaves(fields),
+            Code::Seed => self.seed(fields),
+            Code::DrawnAck => self.drawn_ack(fields),
+            Code::CubesTested => self.cubes_tested(fields),
+            Code::Apply => self.apply(fields),
+            Code::Step => self.step(),
+            Code::StepBack => self.step_back(),
+            Code::EvenRow => self.even_row(fields),
+            Code::NextList => self.next_list(fields, list),
+        }
+    }
+
+    // A call: its line, or its refusal's, and then what the trainer asks, or what the sender and the generator hold.
+    pub(crate) fn call(&mut self, call: Call<'_>) {
+        if let Err(why) = self.answer(call) {
+            self.out.refused(why);
+        }
+        match call.code {
+            Code::AnswerCounts
+            | Code::AnswerScore
+            | Code::Reload
+            | Code::Load
+            | Code::ChangeSettings => self.ask(),
+            Code::Ack | Code::Send | Code::Tick | Code::Burst => self.out.line(Shown(self.sender)),
+            Code::DrawnAck => {
+                self.out.line(Shown(self.sender));
+                self.out.line(Shown(self.generator));
+            }
+            _ => {}
+        }
     }
 }

@@ -2,9 +2,17 @@
 #![tactic(auto)]
 
 use crate::calls::Replay;
-use crate::input::Next;
-use sender::{Made, Sender};
+use crate::input::{BadScript, Script};
+use crate::output::Output;
+use host_sender::inner::read::mode_at;
+use record::inner::layout::{Layout, VERSION};
+use record::inner::read::settings_at;
+use refusal::Refusal;
+use rule_tree::NODES;
+use sender::Sender;
 use trainer::Trainer;
+use wire::inner::read::byte_at;
+use xoshiro::State;
 
 mod bursts;
 mod calls;
@@ -17,69 +25,71 @@ mod trees;
 // The settings and the repeat.
 const HEADER: usize = 146;
 
-// One call, or the end of the script.
-fn turn(r: Replay, bytes: &mut [u8], out: &mut [u8]) -> Replay {
-    match input::next_call(bytes) {
-        Next::Call(code, n) => {
-            let k = input::within(n, bytes);
-            calls::call(r, code, &bytes[..k], out)
+// Where the repeat stands.
+const MODE_PLACE: usize = 137;
+
+// The generator where there is none yet: four zeros, which each of its calls refuses. With an Option they would stand here all the same, for acks.
+const NO_GENERATOR: State = State {
+    s0: 0,
+    s1: 0,
+    s2: 0,
+    s3: 0,
+};
+
+// A trainer and a sender by the header. A drill byte that is neither 0 nor 1, and a repeat's byte above 2, are refused as settings are.
+fn begin(header: &[u8]) -> Result<(Trainer, Sender), Refusal> {
+    if byte_at(header, 12) > 1 {
+        return Err(Refusal::BadSettings);
+    }
+    let trainer = Trainer::start(settings_at(header, Layout::of_version(VERSION), 0))?;
+    if byte_at(header, MODE_PLACE) > 2 {
+        return Err(Refusal::BadSettings);
+    }
+    let sender = Sender::new(mode_at(header, MODE_PLACE))?;
+    Ok((trainer, sender))
+}
+
+// A proved loop has to end, and nothing says that a script does; but no run makes so many calls.
+fn run(replay: &mut Replay, script: &mut Script) -> Result<(), BadScript> {
+    replay.ask();
+    for _ in 0..u64::MAX {
+        let Some(call) = script.next_call()? else {
+            replay.finish();
+            return Ok(());
+        };
+        replay.call(call);
+    }
+    Ok(())
+}
+
+// The calls behind the header, where neither the trainer nor the sender is refused.
+fn start(script: &mut Script) -> Result<(), BadScript> {
+    let header = script.next(HEADER)?;
+    let mut out = Output::new();
+    match begin(header) {
+        Ok((trainer, sender)) => {
+            let mut replay = Replay {
+                trainer,
+                sender,
+                generator: NO_GENERATOR,
+                counts: [0; NODES],
+                out,
+            };
+            let ended = run(&mut replay, script);
+            replay.out.flush();
+            ended
         }
-        Next::End => calls::finish(r, out),
-        Next::Bad => calls::stop(r, out),
-    }
-}
-
-// A proved loop has to end, and nothing says that a script does. So it counts its turns down, from
-// a number that no run uses up.
-fn run(trainer: Trainer, sender: Sender, bytes: &mut [u8], out: &mut [u8]) {
-    let at = lines::question(out, 0, trainer);
-    let generator = draws::none();
-    let mut r = Replay {
-        trainer,
-        sender,
-        generator,
-        counts: [0; 513],
-        at,
-        over: false,
-    };
-    let mut turns = u64::MAX;
-    while turns > 0 && !r.over {
-        r = turn(r, bytes, out);
-        turns -= 1;
-    }
-    output::flush(out, r.at);
-}
-
-fn refuse(out: &mut [u8], number: u32) {
-    let at = lines::refused(out, 0, number);
-    output::flush(out, at);
-}
-
-fn start(bytes: &mut [u8], out: &mut [u8]) {
-    if 1 < input::byte_at(bytes, 12) {
-        refuse(out, 2);
-        return;
-    }
-    let s = input::settings_at(bytes);
-    let begun = Trainer::start(s);
-    if begun.refused != 0 {
-        refuse(out, begun.refused);
-        return;
-    }
-    let trainer = begun.trainer;
-    match input::sender_at(bytes, 137) {
-        Made::Ready(sender) => run(trainer, sender, bytes, out),
-        Made::Refused(number) => refuse(out, number),
+        Err(why) => {
+            out.refused(why);
+            out.flush();
+            Ok(())
+        }
     }
 }
 
 fn main() {
-    let mut bytes = io::large_buffer();
-    let mut out = io::large_buffer();
-    if input::fill(&mut bytes, HEADER) {
-        start(&mut bytes, &mut out);
-    } else {
-        let at = lines::words(&mut out, 0, b"bad script");
-        output::flush(&out, at);
+    let mut script = Script::new();
+    if start(&mut script).is_err() {
+        io::write_all(1, b"bad script\n");
     }
 }

@@ -1,42 +1,36 @@
 // The calls on trees that need none at hand: the split list after another, and the row of the even tree that holds a point.
-use crate::{input, lines, output};
+use crate::calls::Replay;
+use crate::lines::Listed;
+use arrayvec::ArrayVec;
+use refusal::Refusal;
+use wire::inner::read::{byte_at, point_at, short_at};
 
-// The nodes of a list of splits, which stand after n and its length.
-fn nodes_at(fields: &[u8]) -> [u16; 255] {
-    let mut nodes = [0; 255];
-    for (i, node) in nodes.iter_mut().enumerate() {
-        *node = input::short_at(fields, 2 + 2 * i) as u16;
-    }
+// The nodes of a list of splits.
+fn nodes_at(list: &[u8]) -> ArrayVec<u16, 255> {
+    let mut nodes = ArrayVec::new();
+    let _ = nodes.extend(list.chunks_exact(2).map(|node| short_at(node, 0)));
     nodes
 }
 
-fn list_line(out: &mut [u8], at: usize, list: &[u16]) -> usize {
-    let mut next = output::text(out, at, b"next");
-    for node in list {
-        next = output::number(out, next, *node as u64);
-    }
-    output::end_line(out, next)
-}
-
-// The split list after the one that is given.
-pub(crate) fn next_list(out: &mut [u8], at: usize, fields: &[u8]) -> usize {
-    let nodes = nodes_at(fields);
-    let n = input::byte_at(fields, 0) as u32;
-    let k = input::byte_at(fields, 1) as usize;
-    match small_trees::next(n, &nodes[..k]) {
-        Ok(Some(list)) => list_line(out, at, list.as_slice()),
-        Ok(None) => lines::words(out, at, b"last"),
-        Err(refusal) => lines::refused(out, at, refusal.number()),
-    }
-}
-
-// The row of the even tree that holds the point.
-pub(crate) fn even_row(out: &mut [u8], at: usize, fields: &[u8]) -> usize {
-    match even::row_of(input::point_at(fields, 0)) {
-        Some(row) => {
-            let next = output::named(out, at, b"row", row as u64);
-            output::end_line(out, next)
+impl Replay {
+    // The split list after the one that is given.
+    pub(crate) fn next_list(&mut self, fields: &[u8], list: &[u8]) -> Result<(), Refusal> {
+        let n = u32::from(byte_at(fields, 0));
+        match small_trees::next(n, nodes_at(list).as_slice())? {
+            Some(next) => self
+                .out
+                .line(format_args!("next{}", Listed(next.as_slice()))),
+            None => self.out.line("last"),
         }
-        None => lines::words(out, at, b"none"),
+        Ok(())
+    }
+
+    // The row of the even tree that holds the point.
+    pub(crate) fn even_row(&mut self, fields: &[u8]) -> Result<(), Refusal> {
+        match even::row_of(point_at(fields, 0)) {
+            Some(row) => self.out.line(format_args!("row {row}")),
+            None => self.out.line("none"),
+        }
+        Ok(())
     }
 }

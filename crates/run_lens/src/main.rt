@@ -1,6 +1,7 @@
 // A short script of calls with the settings of the Rust's default trainer. The words that are compared, one a line.
 #![tactic(auto)]
 
+// Words by place, as a driver hands them in. Calls by name that are then made words are no plainer: what is read here is the words.
 const SCRIPT: [u64; 173] = [
     // rule_splits, rounds, multiplier, drill
     12,
@@ -204,11 +205,9 @@ const SCRIPT: [u64; 173] = [
 ];
 
 fn print_words(words: &[u64]) {
-    let mut i: usize = 0;
-    while i < words.len() {
-        io::print_decimal(1, words[i]);
+    for x in words {
+        io::print_decimal(1, *x);
         io::write_all(1, b"\n");
-        i += 1;
     }
 }
 

@@ -3,11 +3,11 @@
 
 ghost use Rattle.std.specs.Prelude.{◌≤◌};
 
+use refusal::Refusal;
 use remy::action::Action;
+use remy::cube::Cube;
 use remy::point::Point;
-use rule_tree::{
-    AugmentedRuleTree, Changed, Chosen, Compared, Domain, Looked, Node, Number, RuleTree, Tallied,
-};
+use rule_tree::{AugmentedRuleTree, NODES, Node, RuleTree};
 
 fn say(text: &[u8]) {
     io::write_all(1, text);
@@ -33,102 +33,74 @@ fn item(n: u64) {
 
 // Numbers, each with a space before it.
 fn list(xs: &[u64]) {
-    let mut i: usize = 0;
-    while i < xs.len() {
-        item(xs[i]);
-        i += 1;
+    for x in xs {
+        item(*x);
     }
 }
 
-fn refused(n: u32) {
+fn refused(r: Refusal) {
     say(b"refused ");
-    number(n as u64);
+    number(u64::from(r.number()));
 }
 
 // ---- answers
 
-fn show_changed(r: Changed) {
-    if r.refused == 0 {
-        say(b"taken");
-    } else {
-        refused(r.refused);
+// An answer as its own function shows it, or its refusal.
+fn show<T, F: FnOnce(T)>(r: Result<T, Refusal>, shown: F)
+    requires { F.IsAlwaysCallable shown }
+{
+    match r {
+        Ok(x) => shown(x),
+        Err(e) => refused(e),
     }
+}
+
+// The same, to the end of the line.
+fn line<T, F: FnOnce(T)>(r: Result<T, Refusal>, shown: F)
+    requires { F.IsAlwaysCallable shown }
+{
+    show(r, shown);
     end();
+}
+
+fn taken(_tree: RuleTree) {
+    say(b"taken");
+}
+
+fn count(n: u32) {
+    number(u64::from(n));
+}
+
+fn equality(equal: bool) {
+    if equal {
+        say(b"equal");
+    } else {
+        say(b"not equal");
+    }
+}
+
+// A word and a number, or the word for none.
+fn named_or(word: &[u8], n: Option<u32>, none: &[u8]) {
+    match n {
+        Some(n) => {
+            say(word);
+            count(n);
+        }
+        None => say(none),
+    }
 }
 
 // An action by its increment, which is what it makes of the window 0.
-fn show_looked(r: Looked) {
-    match r {
-        Looked::Found(a) => {
-            say(b"action ");
-            number(a.apply_to(0) as u64);
-        }
-        Looked::Nothing => {
-            say(b"nothing");
-        }
-        Looked::Refused(n) => {
-            refused(n);
-        }
-    }
+fn found(action: Option<Action>) {
+    named_or(b"action ", action.map(|a| a.apply_to(0)), b"nothing");
 }
 
-fn show_tallied(r: Tallied) {
-    match r {
-        Tallied::Counted(i) => {
-            say(b"leaf ");
-            number(i as u64);
-        }
-        Tallied::Nothing => {
-            say(b"nothing");
-        }
-        Tallied::Refused(n) => {
-            refused(n);
-        }
-    }
+fn reached(leaf: Option<u16>) {
+    named_or(b"leaf ", leaf.map(|i| u32::from(i)), b"nothing");
 }
 
-fn show_chosen(r: Chosen) {
-    match r {
-        Chosen::Leaf(i) => {
-            say(b"leaf ");
-            number(i as u64);
-        }
-        Chosen::Nobody => {
-            say(b"nobody");
-        }
-        Chosen::Refused(n) => {
-            refused(n);
-        }
-    }
-    end();
-}
-
-fn show_number(r: Number) {
-    match r {
-        Number::Of(n) => {
-            number(n as u64);
-        }
-        Number::Refused(n) => {
-            refused(n);
-        }
-    }
-    end();
-}
-
-fn show_compared(r: Compared) {
-    match r {
-        Compared::Same(same) => {
-            if same {
-                say(b"equal");
-            } else {
-                say(b"not equal");
-            }
-        }
-        Compared::Refused(n) => {
-            refused(n);
-        }
-    }
-    end();
+fn chosen(leaf: Option<u16>) {
+    named_or(b"leaf ", leaf.map(|i| u32::from(i)), b"nobody");
 }
 
 fn show_ends(lo: f64, hi: f64) {
@@ -138,18 +110,10 @@ fn show_ends(lo: f64, hi: f64) {
     bits(hi);
 }
 
-fn show_domain(r: Domain) {
-    match r {
-        Domain::Of(c) => {
-            show_ends(c.min.ack_ewma.0, c.max.ack_ewma.0);
-            show_ends(c.min.send_ewma.0, c.max.send_ewma.0);
-            show_ends(c.min.rtt_ratio, c.max.rtt_ratio);
-        }
-        Domain::Refused(n) => {
-            refused(n);
-        }
-    }
-    end();
+fn cube(c: Cube) {
+    show_ends(c.min.ack_ewma.0, c.max.ack_ewma.0);
+    show_ends(c.min.send_ewma.0, c.max.send_ewma.0);
+    show_ends(c.min.rtt_ratio, c.max.rtt_ratio);
 }
 
 // ---- trees
@@ -158,137 +122,95 @@ fn action(n: i32) -> Action {
     Action::new(1.0, n, 0.0)
 }
 
-fn fresh_in(ends: Point) -> RuleTree {
-    let a = action(7);
-    let made = RuleTree::new(ends, a);
-    made.tree
+// One leaf.
+fn fresh_in(ends: Point) -> Result<RuleTree, Refusal> {
+    RuleTree::new(ends, action(7))
 }
 
-fn fresh() -> RuleTree {
+fn fresh() -> Result<RuleTree, Refusal> {
     fresh_in(Point::usual_ends())
 }
 
-fn split(t: RuleTree, leaf: u16) -> RuleTree {
-    let done = t.split(leaf);
-    done.tree
-}
-
-fn set(t: RuleTree, leaf: u16, n: i32) -> RuleTree {
-    let a = action(n);
-    let done = t.set_action(leaf, a);
-    done.tree
-}
-
-fn mark(t: RuleTree, leaf: u16) -> RuleTree {
-    let done = t.mark_optimized(leaf);
-    done.tree
-}
-
-// 64 splits: of node 0, then of every step-th node.
-fn grow(step: u16) -> RuleTree
+// 64 splits: of node 0, then of every step-th node, but after the split with number low of that one's first child.
+fn grow(start: RuleTree, step: u16, low: Option<u16>) -> Result<RuleTree, Refusal>
     requires { step ≤ 8 }
 {
-    let mut t = fresh();
-    let mut leaf: u16 = 0;
-    let mut k: u16 = 0;
-    while k < 64 {
-        t = split(t, leaf);
-        leaf += step;
-        k += 1;
-    }
-    t
-}
-
-// 64 splits: each of the last child of the one before, but of the first child after the one with number low.
-fn deep(start: RuleTree, low: u16) -> RuleTree {
     let mut t = start;
     let mut leaf: u16 = 0;
-    let mut k: u16 = 0;
-    while k < 64 {
-        t = split(t, leaf);
-        if k == low {
-            leaf = 8 * k + 1;
+    for k in 0..64 {
+        t = t.split(leaf)?;
+        leaf = if Some(k) == low {
+            8 * k + 1
         } else {
-            leaf = 8 * k + 8;
-        }
-        k += 1;
+            step * (k + 1)
+        };
     }
-    t
+    Ok(t)
 }
 
 // Every leaf of a root that was split once.
-fn mark_eight(start: RuleTree) -> RuleTree {
-    let mut t = start;
-    let mut i: u16 = 1;
-    while i < 9 {
-        t = mark(t, i);
-        i += 1;
-    }
-    t
+fn mark_eight(t: RuleTree) -> Result<RuleTree, Refusal> {
+    (1..9).try_fold(t, RuleTree::mark_optimized)
 }
 
 // The tree with another node in one place.
-fn with_node(t: RuleTree, i: usize, action: Action, children: u16, optimized: bool) -> RuleTree {
-    let x = Node::new(action, children, optimized);
-    let mut out = t;
-    if i < 513 {
-        out.nodes[i] = x;
+fn with_node(mut t: RuleTree, i: usize, node: Node) -> RuleTree {
+    if let Some(x) = t.nodes.get_mut(i) {
+        *x = node;
     }
-    out
+    t
 }
 
 // ---- lines
 
 // The leaf that a point reaches, the action that it finds, and how many cubes were tested.
-fn at(t: RuleTree, ack: f64, send: f64, ratio: f64) {
-    let p = Point::new(ack, send, ratio);
-    let mut counts = [0u64; 513];
-    let reached = t.tally(&mut counts, p);
-    show_tallied(reached);
+fn at(t: RuleTree, point: &[u8], p: Point) {
+    say(point);
+    say(b": ");
+    let mut counts = [0u64; NODES];
+    show(t.tally(&mut counts, p), reached);
     say(b", ");
     let opened = t.action(p);
-    let found = opened.found;
-    show_looked(found);
+    show(opened.found, found);
     say(b", tested ");
-    number(opened.tested as u64);
+    count(opened.tested);
     end();
 }
 
 fn edges(t: RuleTree) {
-    say(b"(0, 0, 0): ");
-    at(t, 0.0, 0.0, 0.0);
-    say(b"(-0, -0, -0): ");
-    at(t, -0.0, -0.0, -0.0);
-    say(b"(300, 300, 500): ");
-    at(t, 300.0, 300.0, 500.0);
-    say(b"the last floats below 600, 600 and 1000: ");
-    at(t, 599.9999999999999, 599.9999999999999, 999.9999999999999);
-    say(b"(600, 0, 0): ");
-    at(t, 600.0, 0.0, 0.0);
-    say(b"(0, 0, 1000): ");
-    at(t, 0.0, 0.0, 1000.0);
-    say(b"(NaN, 0, 0): ");
-    at(t, 0.0 / 0.0, 0.0, 0.0);
+    at(t, b"(0, 0, 0)", Point::new(0.0, 0.0, 0.0));
+    at(t, b"(-0, -0, -0)", Point::new(-0.0, -0.0, -0.0));
+    at(t, b"(300, 300, 500)", Point::new(300.0, 300.0, 500.0));
+    let last = Point::new(599.9999999999999, 599.9999999999999, 999.9999999999999);
+    at(t, b"the last floats below 600, 600 and 1000", last);
+    at(t, b"(600, 0, 0)", Point::new(600.0, 0.0, 0.0));
+    at(t, b"(0, 0, 1000)", Point::new(0.0, 0.0, 1000.0));
+    at(t, b"(NaN, 0, 0)", Point::new(0.0 / 0.0, 0.0, 0.0));
 }
 
 fn cube_of(t: RuleTree, node: u16) {
     say(b"cube of node ");
-    number(node as u64);
+    number(u64::from(node));
     say(b":");
-    show_domain(t.domain(node));
+    line(t.domain(node), cube);
+}
+
+// The parents of a tree value, or its refusal where no splits make it.
+fn parents(t: RuleTree) {
+    line(t.num_parents(), count);
 }
 
 fn full(t: RuleTree, last: u16) {
     say(b"parents: ");
-    show_number(t.num_parents());
+    parents(t);
     say(b"split ");
-    number(last as u64);
+    number(u64::from(last));
     say(b": ");
-    show_changed(t.split(last));
+    line(t.split(last), taken);
     say(b"split 0: ");
-    show_changed(t.split(0));
+    line(t.split(0), taken);
     say(b"split 513: ");
-    show_changed(t.split(513));
+    line(t.split(513), taken);
 }
 
 // A tally at (0, 0, 500) and one at (0, 0, 1000), with the list before and after each.
@@ -297,12 +219,12 @@ fn tally(t: RuleTree, counts: &mut [u64]) {
     list(counts);
     say(b": ");
     let p = Point::new(0.0, 0.0, 500.0);
-    show_tallied(t.tally(counts, p));
+    show(t.tally(counts, p), reached);
     say(b", then");
     list(counts);
     say(b"; outside ");
     let q = Point::new(0.0, 0.0, 1000.0);
-    show_tallied(t.tally(counts, q));
+    show(t.tally(counts, q), reached);
     say(b", then");
     list(counts);
     end();
@@ -341,14 +263,14 @@ fn used(t: RuleTree, counts: &[u64]) {
     say(b"used");
     list(counts);
     say(b": ");
-    show_chosen(t.most_used_rule(counts));
+    line(t.most_used_rule(counts), chosen);
     say(b"  unmarked: ");
-    show_chosen(t.most_used_unoptimized_rule(counts));
+    line(t.most_used_unoptimized_rule(counts), chosen);
     say(b"  above 0: ");
-    show_number(t.num_used_rules(counts));
+    line(t.num_used_rules(counts), count);
 }
 
-fn uses(t: RuleTree) {
+fn uses(t: RuleTree) -> Result<(), Refusal> {
     let five = [0u64, 5, 0, 5, 0, 0, 0, 0, 0];
     let none = [0u64; 9];
     let parent = [1u64, 0, 0, 0, 0, 0, 0, 0, 0];
@@ -356,200 +278,171 @@ fn uses(t: RuleTree) {
     used(t, &none);
     used(t, &parent);
     say(b"3 marked\n");
-    let marked = mark(t, 3);
+    let marked = t.mark_optimized(3)?;
     used(marked, &five);
     say(b"3 marked and set\n");
-    let kept = set(marked, 3, 9);
-    used(kept, &five);
+    used(marked.set_action(3, action(9))?, &five);
     say(b"3 marked and split\n");
     let more = [0u64; 17];
-    used(split(marked, 3), &more);
+    used(marked.split(3)?, &more);
     say(b"all marked\n");
-    let all = mark_eight(t);
+    let all = mark_eight(t)?;
     used(all, &five);
     say(b"all marks cleared\n");
-    let cleared = all.mark_all_unoptimized();
-    let clear = cleared.tree;
-    used(clear, &five);
+    used(all.mark_all_unoptimized()?, &five);
+    Ok(())
 }
 
 fn refusals(t: RuleTree) {
     let bad = Action::new(0.0 / 0.0, 0, 0.0);
     let good = action(9);
     say(b"new, no action: ");
-    show_changed(RuleTree::new(Point::usual_ends(), bad));
+    line(RuleTree::new(Point::usual_ends(), bad), taken);
     say(b"set 3: ");
-    show_changed(t.set_action(3, good));
+    line(t.set_action(3, good), taken);
     say(b"set 3, no action: ");
-    show_changed(t.set_action(3, bad));
+    line(t.set_action(3, bad), taken);
     say(b"set 0, no action: ");
-    show_changed(t.set_action(0, bad));
+    line(t.set_action(0, bad), taken);
     say(b"set 9: ");
-    show_changed(t.set_action(9, good));
+    line(t.set_action(9, good), taken);
     say(b"mark 0: ");
-    show_changed(t.mark_optimized(0));
+    line(t.mark_optimized(0), taken);
     say(b"split 0: ");
-    show_changed(t.split(0));
+    line(t.split(0), taken);
     say(b"cube of node 9: ");
-    show_domain(t.domain(9));
+    line(t.domain(9), cube);
 }
 
 // The tree with one leaf's action replaced, at a point in leaf 3 and at one in leaf 1.
 fn replaced(tree: RuleTree, leaf: u16, action: Action) {
     let with = AugmentedRuleTree { tree, leaf, action };
-    number(leaf as u64);
+    number(u64::from(leaf));
     say(b": ");
-    let p = Point::new(0.0, 300.0, 0.0);
-    show_looked(with.action(p));
+    show(with.action(Point::new(0.0, 300.0, 0.0)), found);
     say(b", ");
-    let q = Point::new(0.0, 0.0, 0.0);
-    show_looked(with.action(q));
-    end();
+    line(with.action(Point::new(0.0, 0.0, 0.0)), found);
 }
 
 fn replacements(t: RuleTree) {
-    let bad = Action::new(0.0 / 0.0, 0, 0.0);
     let good = action(9);
-    say(b"replaced by action 9 in ");
-    replaced(t, 3, good);
-    say(b"replaced by action 9 in ");
-    replaced(t, 1, good);
-    say(b"replaced by action 9 in ");
-    replaced(t, 8, good);
-    say(b"replaced by action 9 in ");
-    replaced(t, 0, good);
-    say(b"replaced by no action in ");
-    replaced(t, 0, bad);
-    say(b"replaced by no action in ");
-    replaced(t, 8, bad);
+    for leaf in [3, 1, 8, 0] {
+        say(b"replaced by action 9 in ");
+        replaced(t, leaf, good);
+    }
+    let bad = Action::new(0.0 / 0.0, 0, 0.0);
+    for leaf in [0, 8] {
+        say(b"replaced by no action in ");
+        replaced(t, leaf, bad);
+    }
 }
 
 fn compare(a: RuleTree, b: RuleTree) {
-    show_compared(a.equals(b));
+    line(a.equals(b), equality);
 }
 
-fn comparisons(t: RuleTree) {
+fn comparisons(t: RuleTree) -> Result<(), Refusal> {
     say(b"splits 0 1 2 and 0 2 1: ");
-    let a = split(split(t, 1), 2);
-    let b = split(split(t, 2), 1);
+    let a = t.split(1)?.split(2)?;
+    let b = t.split(2)?.split(1)?;
     compare(a, b);
     say(b"one marked: ");
-    compare(a, mark(b, 5));
+    compare(a, b.mark_optimized(5)?);
+    let other = a.set_action(9, action(8))?;
     say(b"another action in leaf 9 and in leaf 9: ");
-    compare(set(a, 9, 8), set(b, 9, 8));
+    compare(other, b.set_action(9, action(8))?);
     say(b"another action in leaf 9 and in leaf 17: ");
-    compare(set(a, 9, 8), set(b, 17, 8));
+    compare(other, b.set_action(17, action(8))?);
     say(b"delays 0 and -0: ");
     let minus = Action::new(1.0, 7, -0.0);
-    let zero = t.set_action(3, minus);
-    compare(t, zero.tree);
+    compare(t, t.set_action(3, minus)?);
+    Ok(())
 }
 
-// The parents of a tree value, or its refusal where no splits make it.
-fn parents(t: RuleTree) {
-    show_number(t.num_parents());
-}
-
-fn no_links(t: RuleTree) {
+fn no_links(t: RuleTree) -> Result<(), Refusal> {
     let none = Action::new(0.0, 0, 0.0);
-    let two = split(t, 1);
+    let two = t.split(1)?;
     say(b"two splits: ");
     parents(two);
     say(b"two parents of the same eight: ");
-    parents(with_node(two, 2, none, 9, false));
+    parents(with_node(two, 2, Node::new(none, 9, false)));
     say(b"a node is its own child: ");
-    let a = action(7);
-    let without = with_node(two, 1, a, 0, false);
-    parents(with_node(without, 9, none, 9, false));
+    let without = with_node(two, 1, Node::new(action(7), 0, false));
+    parents(with_node(without, 9, Node::new(none, 9, false)));
     say(b"a split that no node has: ");
-    let mut more = t;
-    more.splits = 2;
-    parents(more);
+    parents(RuleTree { splits: 2, ..t });
     say(b"65 splits: ");
-    more.splits = 65;
-    parents(more);
+    parents(RuleTree { splits: 65, ..t });
+    Ok(())
 }
 
 fn no_payloads(t: RuleTree) {
-    let none = Action::new(0.0, 0, 0.0);
     say(b"a slot past the last node holds an action: ");
-    let a = action(7);
-    parents(with_node(t, 9, a, 0, false));
+    parents(with_node(t, 9, Node::new(action(7), 0, false)));
     say(b"a parent is marked: ");
-    parents(with_node(t, 0, none, 1, true));
+    let none = Action::new(0.0, 0, 0.0);
+    parents(with_node(t, 0, Node::new(none, 1, true)));
     say(b"a parent holds the delay -0: ");
     let minus = Action::new(0.0, 0, -0.0);
-    parents(with_node(t, 0, minus, 1, false));
+    parents(with_node(t, 0, Node::new(minus, 1, false)));
     say(b"a leaf's increment is too large: ");
     let large = action(1000001);
-    parents(with_node(t, 3, large, 0, false));
+    parents(with_node(t, 3, Node::new(large, 0, false)));
     say(b"a parent's increment is too large: ");
-    parents(with_node(t, 0, large, 1, false));
+    parents(with_node(t, 0, Node::new(large, 1, false)));
     say(b"other ends: ");
-    let mut wide = t;
-    wide.ends = Point::new(600.0, 600.0, 1001.0);
-    parents(wide);
+    let ends = Point::new(600.0, 600.0, 1001.0);
+    parents(RuleTree { ends, ..t });
     say(b"an end that no box may have: ");
-    wide.ends = Point::new(600.0, 600.0, 1000001.0);
-    parents(wide);
+    let ends = Point::new(600.0, 600.0, 1000001.0);
+    parents(RuleTree { ends, ..t });
 }
 
 // The number of splits, and what node 3 holds.
 fn third(t: RuleTree) {
     say(b"splits");
-    item(t.splits as u64);
+    item(u64::from(t.splits));
     let x = t.nodes[3];
     if x.optimized {
         say(b", marked");
     } else {
         say(b", unmarked");
     }
-    let i = x.window_increment;
-    if i == 9 {
+    if x.window_increment == 9 {
         say(b", action 9\n");
     } else {
         say(b", another action\n");
     }
 }
 
-fn undo(t: RuleTree) -> RuleTree {
-    let done = t.undo_split();
-    done.tree
-}
-
-fn taken_back(t: RuleTree) {
+fn taken_back(t: RuleTree) -> Result<(), Refusal> {
     say(b"no split to take back: ");
-    let one = fresh();
-    show_changed(one.undo_split());
+    line(fresh()?.undo_split(), taken);
     say(b"taken back, 65 splits: ");
-    let mut more = t;
-    more.splits = 65;
-    show_changed(more.undo_split());
+    line(RuleTree { splits: 65, ..t }.undo_split(), taken);
     say(b"leaf 3 with action 9, marked: ");
-    let held = mark(set(t, 3, 9), 3);
+    let held = t.set_action(3, action(9))?.mark_optimized(3)?;
     third(held);
     say(b"split, its children given another: ");
-    let grown = set(split(held, 3), 9, 8);
+    let grown = held.split(3)?.set_action(9, action(8))?;
     third(grown);
     say(b"all marks cleared and taken back: ");
-    let cleared = grown.mark_all_unoptimized();
-    third(undo(cleared.tree));
+    third(grown.mark_all_unoptimized()?.undo_split()?);
     say(b"and once more: ");
-    parents(undo(undo(grown)));
+    parents(grown.undo_split()?.undo_split()?);
+    Ok(())
 }
 
-fn large() {
+fn large() -> Result<(), Refusal> {
     say(b"-- a chain\n");
-    let chain = set(grow(8), 418, 9);
+    let chain = grow(fresh()?, 8, None)?.set_action(418, action(9))?;
     full(chain, 512);
     edges(chain);
-    cube_of(chain, 408);
-    cube_of(chain, 416);
-    cube_of(chain, 424);
-    cube_of(chain, 432);
-    cube_of(chain, 512);
+    for node in [408, 416, 424, 432, 512] {
+        cube_of(chain, node);
+    }
     say(b"-- a bush\n");
-    let bush = set(grow(1), 65, 9);
+    let bush = grow(fresh()?, 1, None)?.set_action(65, action(9))?;
     full(bush, 512);
     edges(bush);
     cube_of(bush, 0);
@@ -561,34 +454,41 @@ fn large() {
     compare(bush, bush);
     say(b"chain and bush: ");
     compare(chain, bush);
+    Ok(())
 }
 
 // The most cubes that a lookup tests. With the usual ends the last children grow empty, so that the first is once the deeper way.
-fn deepest() {
+fn deepest() -> Result<(), Refusal> {
     say(b"-- the deepest\n");
-    say(b"with the usual ends: ");
-    at(
-        deep(fresh(), 45),
-        599.9999999999914,
-        599.9999999999914,
-        999.9999999999857,
-    );
-    say(b"with ends of many digits: ");
+    let p = Point::new(599.9999999999914, 599.9999999999914, 999.9999999999857);
+    at(grow(fresh()?, 8, Some(45))?, b"with the usual ends", p);
     let ends = Point::new(600.0000000000001, 600.0000000000001, 1000.0000000000001);
-    at(deep(fresh_in(ends), 64), 600.0, 600.0, 1000.0);
+    at(
+        grow(fresh_in(ends)?, 8, None)?,
+        b"with ends of many digits",
+        Point::usual_ends(),
+    );
+    Ok(())
+}
+
+fn all() -> Result<(), Refusal> {
+    large()?;
+    deepest()?;
+    let t = fresh()?.split(0)?;
+    say(b"-- one split\n");
+    tallies(t);
+    uses(t)?;
+    refusals(t);
+    replacements(t);
+    comparisons(t)?;
+    no_links(t)?;
+    no_payloads(t);
+    taken_back(t)
 }
 
 fn main() {
-    large();
-    deepest();
-    let t = split(fresh(), 0);
-    say(b"-- one split\n");
-    tallies(t);
-    uses(t);
-    refusals(t);
-    replacements(t);
-    comparisons(t);
-    no_links(t);
-    no_payloads(t);
-    taken_back(t);
+    if let Err(r) = all() {
+        refused(r);
+        end();
+    }
 }

@@ -4,6 +4,7 @@
 use refusal::Refusal;
 use xoshiro::State;
 
+// What this program prints with. Each has its own: a public function of a library has a contract that gives its answer, and printing has none.
 fn say(text: &[u8]) {
     io::write_all(1, text);
 }
@@ -34,6 +35,7 @@ fn state(answer: Result<State, Refusal>) -> State {
     }
 }
 
+// No `Display`: the words would need a type of the program's own, and a buffer to be written into before they are printed.
 fn words(s: State) {
     number(s.s0);
     say(b" ");
