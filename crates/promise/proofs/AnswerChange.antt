@@ -33,6 +33,12 @@ change_is : (t : Trainer) (s : Settings) → accepted_of t ≡ true
 unfolding change_of
 change_is t s a = rw a
 
+plain_is : (st : State) (s : Settings)
+    → changed st s
+    ≡ cond (settings_taken s) (cond (taken st s) (become (at s st.tree st.stage st.round (phase_after st.phase))) (refuse 27 st)) (refuse 2 st)
+unfolding changed
+plain_is st s = refl
+
 -- settings that are refused with 2 leave the plain trainer
 pub refused_stays : (st : State) (s : Settings) → settings_taken s ≡ false → (changed st s).state ≡ st
 unfolding changed
