@@ -18,3 +18,7 @@ read_back b h e = to_bits-of_bits binary64 b h (subst (λ (t : Bool). T (not t))
 
 pub bits_nan : (x : Float) → T (fits binary64 x) → nan_bits binary64 (to_bits binary64 x) ≡ is_nan x
 bits_nan x h = nan_bits_is binary64 (to_bits binary64 x) ∙ ap is_nan (bits_back x h)
+
+-- two floats of the format with the same bits are the same
+pub bits_same : (x y : Float) → T (fits binary64 x) → T (fits binary64 y) → to_bits binary64 x ≡ to_bits binary64 y → x ≡ y
+bits_same x y h k e = sym (bits_back x h) ∙ ap (of_bits binary64) e ∙ bits_back y k

@@ -7,3 +7,4 @@ pub mod Interval
 pub mod Average
 pub mod Bits
 pub mod Same
+pub mod Whole

@@ -15,7 +15,8 @@ pub struct TimeSpan(pub f64);
 
 // A moment, in seconds from the start. Its number is private: two moments have a difference and a later one, and no sum.
 // It is made by admitting a number, by moving a moment by a span, or by restoring one that was held.
-#[derive(Clone, Copy, PartialEq, PartialOrd)]
+// No PartialEq and no PartialOrd: they would be calls that take two moments, beside the difference and the later one.
+#[derive(Clone, Copy)]
 pub struct Time(f64);
 
 pub fn milliseconds(value: f64) -> TimeSpan
@@ -105,6 +106,6 @@ impl Time {
     pub fn later(self, other: Time) -> Time
         ensures { result ≡ later_of self other }
     {
-        if self < other { other } else { self }
+        if self.0 < other.0 { other } else { self }
     }
 }

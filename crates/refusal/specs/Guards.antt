@@ -11,6 +11,11 @@ pub record Check : Type 0 where
 abbrev pub check : Bool → Refusal → Check
 check b r = record { holds = b; refusal = r }
 
+-- an answer of any type: what comes of the refusal by the first check that fails, else the answer
+abbrev pub guarded : {A : Type 0} → List Check → (Refusal → A) → A → A
+guarded [] refuse answer = answer
+guarded (t ∷ ts) refuse answer = cond t.holds (guarded ts refuse answer) (refuse t.refusal)
+
 -- refused by the first check that fails, else the answer
 abbrev pub checked : {A : Type 0} → List Check → Result A Refusal → Result A Refusal
 checked [] answer = answer

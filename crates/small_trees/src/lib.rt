@@ -3,27 +3,36 @@
 
 ghost use Rattle.std.specs.Prelude.{◌≡◌, ◌≢◌, [], ◌∷◌, ◌<◌, ◌≤◌, Ok, length, MatchResult};
 ghost use Rattle.refusal.specs.declared.Refusal.TheVariants.{NoSplitList};
+ghost use Rattle.small_trees.specs.Held.{held_of};
 ghost use Rattle.small_trees.specs.Calls.{next_of};
 
-use arrayvec::ArrayVec;
 use refusal::Refusal;
 use std::marker::Model;
 
 // The most splits of a list.
 pub const MOST_LISTED: u32 = 3;
 
-// A list of at most three splits, each of a node that is a leaf then.
-#[derive(Drop)]
+// A list of at most three splits, each of a node that is a leaf then: the first count of the three. An ArrayVec of them would not be Copy.
+#[derive(Clone, Copy)]
 pub struct SplitList {
-    splits: ArrayVec<u16, 3>,
+    splits: [u16; 3],
+    count: u16,
 }
 
 impl Model for SplitList {
-    ghost use Rattle.std.specs.Prelude.{ℕ, List};
+    ghost use Rattle.std.specs.Prelude.{ℕ, List, length, take};
+    ghost use Rattle.small_trees.specs.Held.{Packed, unpacked, count_back, splits_back};
 
     ghost Value = { List ℕ };
 
-    ghost view = { λ s. s.splits.items };
+    ghost view = { λ s. take s.count s.splits };
+
+    // Zeros behind: so the list gives the fields back, and a list of splits may be copied.
+    ghost invariant = { λ s. Packed s.splits s.count };
+
+    ghost inverse = { λ l. record { splits = unpacked l; count = length l } };
+
+    ghost inverse_ok = { λ s h j. record { splits = splits_back s.splits s.count h j; count = count_back s.splits s.count h j } };
 }
 
 impl SplitList {
@@ -31,11 +40,23 @@ impl SplitList {
         requires { length splits.now ≤ 3 }
         ensures { result ≡ splits.now }
     {
-        let mut list = ArrayVec::new();
-        for split in splits {
-            list.push(*split);
+        let mut list = [0; 3];
+        list[..splits.len()].copy_from_slice(splits);
+        SplitList {
+            splits: list,
+            count: splits.len() as u16,
         }
-        SplitList { splits: list }
+    }
+
+    // The list of these splits, where they are at most three; which nodes they name is not looked at.
+    #[tactic(auto, using(std::proofs::lemmas::Bool::Decides::nat_tests))]
+    pub fn new(splits: &[u16]) -> Option<Self>
+        ensures { result ≡ held_of splits.now }
+    {
+        if splits.len() > MOST_LISTED as usize {
+            return None;
+        }
+        Some(SplitList::of(splits))
     }
 
     // The list of no split.
@@ -48,7 +69,7 @@ impl SplitList {
     pub fn as_slice(&self) -> &[u16]
         ensures { (result.now ≡ self.now) × (length self.now ≤ 3) }
     {
-        self.splits.as_slice()
+        &self.splits[..self.count as usize]
     }
 }
 

@@ -1,5 +1,5 @@
 -- Big-endian bytes: their count and range, the number that they stand for, and when two lists are the same. Assumes nothing.
-use mathlib.Core.Path.{◌≡◌, refl, sym, ap, ◌∙◌}
+use mathlib.Core.Path.{◌≡◌, refl, sym, ap, subst, ◌∙◌}
 use mathlib.Core.Bool.{Bool, true, false, ◌&&◌, true≢false}
 use mathlib.Core.List.{List, [], ◌∷◌, ◌++◌, append_assoc, append-nil}
 use Prim.Native.Nat.{ℕ, zero, suc, ◌+◌, ◌*◌, ◌/◌, ◌%◌, ◌^◌, ◌<◌, ◌≤◌}
@@ -10,11 +10,12 @@ use native.Mathlib.Omega.{arith}
 use borrow.Author.Tests.{eq-eqb}
 use lib.Dec.{eqb}
 use Rattle.std.specs.Prelude.{◌==◌}
+use Rattle.std.specs.Int.{w64, from_be_bytes}
 use Rattle.std.specs.Cmp.Lexicographic.{pointwise, same_text}
 use lib.ListN.{length, get_or, set, take, drop, length-append, length-drop, length-take}
 use Rattle.std.proofs.lemmas.List.{get_or-set_other}
 use Rattle.std.proofs.lemmas.Grind.{get_or-set_at}
-use lib.Seq.{take_at, take_all, take-suc, get_or-drop}
+use lib.Seq.{take_at, take_all, take-suc, get_or-drop, get_or-take}
 use Rattle.wire.specs.Bytes.{bytes_of, shorts_bytes, value_from, number_at, same_bytes}
 
 -- ---- the bytes of a number
@@ -162,3 +163,28 @@ counts_more f xs i x l h e k m =
 
     apart : {k i : ℕ} → k ≡ i → k < i → ⊥
     apart p q = omega arith
+
+-- bytes that end early stand for a shorter number
+pub number_short : (bytes : List ℕ) (at i n x : ℕ) → length bytes ≤ at + i → i ≤ n → x ≡ number_at bytes at i → x ≡ number_at bytes at n
+number_short bytes at i n x l h e =
+    let r = drop at bytes in
+    let d = length-drop at bytes in
+    e ∙ ap (value_from 0) (take_all i r (omega arith) ∙ sym (take_all n r (omega arith)))
+
+-- eight bytes as one word
+pub eight_read : (bs bytes : List ℕ) (at n : ℕ) {x : ℕ} → bs ≡ take n (drop at bytes) → 8 ≤ length bs → length bs < 9 → ((i : ℕ) → get_or bytes i 0 < 256)
+    → x ≡ from_be_bytes w64 (get_or bs 0 0 ∷ get_or bs 1 0 ∷ get_or bs 2 0 ∷ get_or bs 3 0 ∷ get_or bs 4 0 ∷ get_or bs 5 0 ∷ get_or bs 6 0 ∷ get_or bs 7 0 ∷ []) → (x ≡ number_at bytes at n) × (x < 256 ^ n)
+eight_read bs bytes at n {x} e l u given h =
+    let f = field_length bytes at n e in
+    let small : (i : ℕ) → i < 8 → get_or bs i 0 < 256 =
+    λ i b. subst (λ (v : ℕ). v < 256)
+    (sym (ap (λ (ys : List ℕ). get_or ys i 0) e ∙ get_or-take n (drop at bytes) i 0 (omega (arith, f, l, b)) ∙ get_or-drop at bytes i 0)) (given (at + i)) in
+    let r1 = read_more bs 0 _ (get_or bs 0 0) (omega (arith, l)) (read_none bs) refl (small 0 (omega arith)) in
+    let r2 = read_more bs 1 _ (get_or bs 1 0) (omega (arith, l)) (r1) refl (small 1 (omega arith)) in
+    let r3 = read_more bs 2 _ (get_or bs 2 0) (omega (arith, l)) (r2) refl (small 2 (omega arith)) in
+    let r4 = read_more bs 3 _ (get_or bs 3 0) (omega (arith, l)) (r3) refl (small 3 (omega arith)) in
+    let r5 = read_more bs 4 _ (get_or bs 4 0) (omega (arith, l)) (r4) refl (small 4 (omega arith)) in
+    let r6 = read_more bs 5 _ (get_or bs 5 0) (omega (arith, l)) (r5) refl (small 5 (omega arith)) in
+    let r7 = read_more bs 6 _ (get_or bs 6 0) (omega (arith, l)) (r6) refl (small 6 (omega arith)) in
+    let r8 = read_more bs 7 _ (get_or bs 7 0) (omega (arith, l)) (r7) refl (small 7 (omega arith)) in
+    read_all bs 8 x bytes at n e (subst (Read bs 8) (omega (arith, h)) r8) (omega (arith, u)) l

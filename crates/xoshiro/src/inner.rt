@@ -1,6 +1,6 @@
-// The generator's words: the step and the step back, of every state.
-ghost use Rattle.std.specs.Prelude.{◌≡◌};
-ghost use Rattle.xoshiro.specs.Xoshiro.{zeros_of, stepped_of, back_of};
+// The generator's words: rotation, the step and the step back, of every state.
+ghost use Rattle.std.specs.Prelude.{◌≡◌, ◌<◌};
+ghost use Rattle.xoshiro.specs.Xoshiro.{rotated, zeros_of, stepped_of, back_of};
 
 use crate::{State, Stepped};
 
@@ -10,6 +10,14 @@ const ZEROS: State = State {
     s2: 0,
     s3: 0,
 };
+
+// The word rotated left by k bits.
+fn rotl(x: u64, k: u32) -> u64
+    requires { (0 < k) × (k < 64) }
+    ensures { result ≡ rotated x k }
+{
+    x.rotate_left(k)
+}
 
 // Whether the words are four zeros.
 #[tactic(auto, unfolding(crate::specs::Xoshiro::zeros_of))]
@@ -23,7 +31,7 @@ pub fn zeros(s: State) -> bool
 pub fn next(s: State) -> Stepped
     ensures { result ≡ stepped_of s }
 {
-    let output = s.s0.wrapping_add(s.s3).rotate_left(23).wrapping_add(s.s0);
+    let output = rotl(s.s0.wrapping_add(s.s3), 23).wrapping_add(s.s0);
     let t = s.s1 << 17;
     let x2 = s.s2 ^ s.s0;
     let x3 = s.s3 ^ s.s1;
@@ -31,7 +39,7 @@ pub fn next(s: State) -> Stepped
         s0: s.s0 ^ x3,
         s1: s.s1 ^ x2,
         s2: x2 ^ t,
-        s3: x3.rotate_left(45),
+        s3: rotl(x3, 45),
     };
     Stepped { output, state }
 }
@@ -40,7 +48,7 @@ pub fn next(s: State) -> Stepped
 pub fn back(s: State) -> State
     ensures { result ≡ back_of s }
 {
-    let x3 = s.s3.rotate_left(19);
+    let x3 = rotl(s.s3, 19);
     let s0 = s.s0 ^ x3;
     let x = s.s1 ^ s.s2;
     let y = x ^ (x << 17);

@@ -14,13 +14,17 @@ fn field(bytes: &[u8], at: usize, n: usize) -> &[u8]
     &rest[..n.min(rest.len())]
 }
 
-// The number in n bytes from place at on. No `from_be_bytes`: bytes that end early stand for a shorter number.
+// The number in n bytes from place at on. Bytes that end early stand for a shorter number; eight are a word, which is read at once.
 pub fn number_at(bytes: &[u8], at: usize, n: usize) -> u64
     requires { n ≤ 8 }
     ensures { (result ≡ number_at bytes.now at n) × (result < 256 ^ n) }
 {
+    let field = field(bytes, at, n);
+    if let [a, b, c, d, e, f, g, h] = field {
+        return u64::from_be_bytes([*a, *b, *c, *d, *e, *f, *g, *h]);
+    }
     let mut x: u64 = 0;
-    for b in field(bytes, at, n) {
+    for b in field {
         x = x * 256 + u64::from(*b);
     }
     x

@@ -3,4 +3,4 @@ use Rattle.wire.proofs.Bytes.{Read}
 use Rattle.wire.proofs.inner.read.number_at.Given as goal
 
 abbrev pub invariant-loop-b : goal.invariant-loop-b
-invariant-loop-b l = Read l.b-items l.b-index l.x
+invariant-loop-b l = Read l.field l.b-index l.x
