@@ -30,7 +30,7 @@ fn cubes_from(parents: &[u16; SPLITS], root: Cube, n: u16) -> [Cube; NODES]
 fn cubes_of(t: Grown<'_>) -> [Cube; NODES]
     ensures { CubesAre result (node_count t.entry.tree.now.splits) (cube_of t.entry.tree.now) }
 {
-    let parents = cubes::split_nodes(t.tree);
+    let parents = cubes::split_nodes_of(t.tree);
     let root = Cube::root(t.tree.ends);
     cubes_from(&parents, root, 1 + 8 * t.tree.splits)
 }

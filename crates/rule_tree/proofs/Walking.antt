@@ -7,7 +7,7 @@ use mathlib.Core.List.{List}
 use Prim.Native.Nat.{ℕ, zero, suc, ◌+◌, ◌*◌, ◌<◌, ◌≤◌}
 use native.Mathlib.Nat.{eq-or-lt_of_le}
 use native.Mathlib.Omega.{arith}
-use lib.Dec.{eqb, leb}
+use lib.Dec.{eqb, leb, T}
 use lib.Ieee.Bits.{is_true}
 use lib.ListN.{get_or}
 use borrow.Author.Tests.{eqb-true, leb-true, le-leb, eq-eqb, ne_eqb}
@@ -22,7 +22,7 @@ use Rattle.rule_tree.specs.Nodes.{node_count}
 use Rattle.rule_tree.specs.Grown.{link_holds, links_hold, owners_of, all_ones, linked_of}
 use Rattle.rule_tree.specs.Walk.{first_from, first_child, tested_more, descend, walk_of, Walkable}
 use Rattle.rule_tree.proofs.Plain.{and_l, and_r}
-use Rattle.rule_tree.proofs.Links.{Link, link_of_lem}
+use Rattle.rule_tree.proofs.Links.{Link, link_of_lem, link_more}
 use Rattle.rule_tree.proofs.Lists.{all_below_at, all_below_all, get_d_tabulate}
 
 -- ---- the first child
@@ -231,3 +231,11 @@ links_linked cs s few links owners =
     all_below_all s (λ k. eqb (get_or (owners_of cs) k 0) 1)
     (λ k l. eq-eqb (get_or (owners_of cs) k 0) 1 (get_d_tabulate 64 k (λ j. occurrences (8 * j + 1) cs) 0 (omega arith) ∙ owners k l)) in
     rw (le-leb s 64 few, a, b)
+
+-- links that hold for some number of splits hold for 64, as a walk asks
+pub linked_walkable : (cs : List ℕ) (s : ℕ) → linked_of cs s ≡ true → T (links_hold cs 64)
+linked_walkable cs s h =
+    subst T
+    (sym (all_below_all 513 (λ i. link_holds 64 (get_or cs i 0) i)
+    (λ i l. link_more s 64 (get_or cs i 0) i (linked_few cs s h) (all_below_at 513 i (λ j. link_holds s (get_or cs j 0) j) (linked_links cs s h) l))))
+    tt

@@ -20,15 +20,15 @@ use Rattle.rule_tree_laws.proofs.Slots.{grown_slot}
 use Rattle.rule_tree_laws.proofs.EqualSelf.{itself, root_rising}
 
 -- two nodes that differ in their marks alone, and lists of such
-record Alike (x y : Node) : Type 0 where
-  links : x.children ≡ y.children
-  actions : action_in x ≡ action_in y
+pub record Alike (x y : Node) : Type 0 where
+  pub links : x.children ≡ y.children
+  pub actions : action_in x ≡ action_in y
 
-abbrev AllAlike : List Node → List Node → Type 0
+abbrev pub AllAlike : List Node → List Node → Type 0
 AllAlike s t = (k : ℕ) → Alike (node_at_of s k) (node_at_of t k)
 
 -- equality looks at links and actions alone
-same_fields : (n : ℕ) (s s' t t' : List Node) → AllAlike s s' → AllAlike t t' → (i j : ℕ) (c d : Cube) → node_equal n s t i j c d ≡ node_equal n s' t' i j c d
+pub same_fields : (n : ℕ) (s s' t t' : List Node) → AllAlike s s' → AllAlike t t' → (i j : ℕ) (c d : Cube) → node_equal n s t i j c d ≡ node_equal n s' t' i j c d
 unfolding node_equal
 same_fields zero s s' t t' p q i j c d = refl
 same_fields (suc n) s s' t t' p q i j c d =

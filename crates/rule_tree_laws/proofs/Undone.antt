@@ -17,7 +17,9 @@ use Rattle.rule_tree.specs.declared.RuleTree.{RuleTree}
 use Rattle.rule_tree.specs.Nodes.{no_node, node_at_of, node_count, no_action, leaf_with, linked_to, action_in}
 use Rattle.rule_tree.specs.Grown.{grown_of}
 use Rattle.rule_tree.specs.Change.{split_at_of, newest_parent, undone}
-use Rattle.std.specs.Prelude.{Ok}
+use Rattle.std.specs.Prelude.{Result, Ok}
+use Rattle.refusal.specs.declared.Refusal.{Refusal}
+use Rattle.refusal.specs.Guards.{and_then}
 use Rattle.rule_tree.specs.Calls.{leaf_in, split_of, undo_of}
 use Rattle.rule_tree.proofs.Owners.{same_or_not}
 use Rattle.rule_tree.proofs.Plain.{ActionFits, PointFits}
@@ -146,5 +148,5 @@ module _ (t : RuleTree) (i : ℕ) (f : TreeFits t) (g : grown_of t ≡ true) (l 
   unfolding undo_of
   undo_gives = rw (grown, lt-ltb _ _ some, split_undone)
 
-  pub split_taken_back : (u : RuleTree) → split_of t i ≡ Ok u → undo_of u ≡ Ok t
-  split_taken_back u e = let made : u ≡ split_at_of t i = cc split_gives in ap undo_of made ∙ undo_gives
+  pub split_taken_back : and_then (split_of t i) undo_of ≡ Ok t
+  split_taken_back = ap (λ (r : Result RuleTree Refusal). and_then r undo_of) split_gives ∙ undo_gives

@@ -56,7 +56,7 @@ fn put_splits(buf: &mut [u8], at: usize, t: &RuleTree)
     requires { (t.now.splits ≤ most_splits) × (at + (2 + 2 * t.now.splits) ≤ length buf.old) }
     ensures { buf.new ≡ sets buf.old at (splits_bytes t.now) }
 {
-    let parents = cubes::split_nodes(t);
+    let parents = cubes::split_nodes_of(t);
     put(buf, at, 2, u64::from(t.splits));
     put_list(buf, at + 2, &parents[..usize::from(t.splits)]);
 }

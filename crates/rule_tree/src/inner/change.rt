@@ -116,7 +116,7 @@ fn newest_parent(t: &RuleTree) -> u16
     requires { (0 < t.now.splits) × (t.now.splits ≤ most_splits) }
     ensures { result ≡ newest_parent t.now }
 {
-    let parents = cubes::split_nodes(t);
+    let parents = cubes::split_nodes_of(t);
     parents[(t.splits - 1) as usize]
 }
 

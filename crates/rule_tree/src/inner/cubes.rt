@@ -3,21 +3,29 @@ ghost use Rattle.std.specs.Prelude.{◌≡◌, ◌<◌};
 ghost use Rattle.rule_tree.specs.Nodes.{children_of, slots};
 ghost use Rattle.rule_tree.specs.Cubes.{split_nodes, Before, cube_at};
 
-use crate::{MOST_SPLITS, RuleTree, SPLITS};
+use crate::inner::links;
+use crate::{MOST_SPLITS, NODES, RuleTree, SPLITS};
 use remy::cube::Cube;
 
-// The node that each split made a parent.
-pub fn split_nodes(t: &RuleTree) -> [u16; SPLITS]
-    ensures { result ≡ split_nodes (children_of t.now.nodes) }
+// The node that each split made a parent, by any nodes' links.
+pub fn split_nodes(children: &[u16; NODES]) -> [u16; SPLITS]
+    ensures { result ≡ split_nodes children.now }
 {
     let mut out = [0u16; SPLITS];
-    for (i, x) in t.nodes.iter().enumerate() {
-        let k = x.children / 8;
-        if x.children % 8 == 1 && k < MOST_SPLITS {
+    for (i, x) in children.iter().enumerate() {
+        let k = *x / 8;
+        if *x % 8 == 1 && k < MOST_SPLITS {
             out[k as usize] = i as u16;
         }
     }
     out
+}
+
+// The same of a tree's links.
+pub fn split_nodes_of(t: &RuleTree) -> [u16; SPLITS]
+    ensures { result ≡ split_nodes (children_of t.now.nodes) }
+{
+    split_nodes(&links::children_of(t))
 }
 
 // The cube of node i: child (i - 1) % 8 of the node that its split made a parent. To compute every node's for it, as ranges does, is no plainer.

@@ -67,7 +67,7 @@ impl<'a> Grown<'a> {
         requires { i < slots }
         ensures { result ≡ cube_of self.entry.tree.now i }
     {
-        let parents = cubes::split_nodes(self.tree);
+        let parents = cubes::split_nodes_of(self.tree);
         let root = Cube::root(self.tree.ends);
         cubes::cube_at(&parents, root, i)
     }

@@ -5,4 +5,4 @@ use Rattle.rule_tree.proofs.Links as law
 use Rattle.rule_tree.proofs.inner.grown.Grown.domain.Goals as goal
 
 pub cube_at-requires : goal.cube_at-requires
-cube_at-requires c = (c.requires, subst Before (sym c.split_nodes-parents.ensures) (law.grown_low c.args.self.tree.now c.args.self.grown))
+cube_at-requires c = (c.requires, subst Before (sym c.split_nodes_of-parents.ensures) (law.grown_low c.args.self.tree.now c.args.self.grown))
