@@ -5,7 +5,7 @@ use mathlib.Core.List.{List, [], ◌∷◌, ◌++◌, append_assoc, append-nil}
 use Prim.Native.Nat.{ℕ, zero, suc, ◌+◌, ◌/◌, ◌%◌, ◌^◌, ◌<◌, ◌≤◌}
 use native.Mathlib.Nat.{pow-suc}
 use native.Mathlib.Omega.{arith}
-use borrow.Author.Tests.{lt-ltb, ltb-true, ltb-false, ne_eqb}
+use borrow.Author.Tests.{lt-ltb, le-ltb, ltb-true, ltb-false, ne_eqb}
 use lib.Dec.{eqb, ltb}
 use lib.ListN.{length, length-append}
 use Rattle.std.specs.Fmt as fmt
@@ -58,3 +58,16 @@ digits_few (suc n) k x l = by (ltb x 10) refl k l (λ j. digits_few n j (x / 10)
 
 pub decimal_few : (k x : ℕ) → x < 10 ^ suc k → length (decimal x) ≤ suc k
 decimal_few k x l = digits_few 20 k x l
+
+-- ---- a number of two digits or more is its tenth's and a digit
+digits_more : (n x : ℕ) → x < 10 ^ suc n → digits (suc (suc n)) x ≡ digits (suc n) x
+unfolding digits
+digits_more zero x l = let q : ltb x 10 ≡ true = lt-ltb x 10 (omega (arith, pow-suc 10 0)) in rw q
+digits_more (suc n) x l =
+    let h : x / 10 < 10 ^ suc n = omega (arith, pow-suc 10 (suc n)) in
+    ap (λ (d : List ℕ). cond (ltb x 10) ((48 + x) ∷ []) (d ++ ((48 + x % 10) ∷ []))) (digits_more n (x / 10) h)
+
+pub decimal_more : (x : ℕ) → 10 ≤ x → x < 18446744073709551616 → decimal x ≡ decimal (x / 10) ++ ((48 + x % 10) ∷ [])
+unfolding digits
+decimal_more x l h =
+    rw (le-ltb x 10 l) (ap (λ (d : List ℕ). d ++ ((48 + x % 10) ∷ [])) (sym (digits_more 18 (x / 10) (omega arith))))

@@ -14,7 +14,7 @@ pub mod inner;
 pub fn panel(input: &[u8], out: &mut [u8]) -> Result<usize, Refusal>
     ensures { (result ≡ panel_of input.now out.old) × (out.new ≡ out_after input.now out.old (panel_of input.now out.old)) }
 {
-    let n = read::record_size(input)?;
+    let n = read::record_within(input)?;
     let t = record::load(&input[..n])?;
     show::counts_shown(&t.tree, &input[n..], out)
 }

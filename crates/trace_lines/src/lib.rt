@@ -15,7 +15,7 @@ pub mod inner;
 pub fn trace(input: &[u8], out: &mut [u8]) -> Result<usize, Refusal>
     ensures { (result ≡ trace_of input.now out.old) × (out.new ≡ out_after input.now out.old (trace_of input.now out.old)) }
 {
-    let n = read::record_size(input)?;
+    let n = read::record_within(input)?;
     let t = record::load(&input[..n])?;
     let tree = Grown { tree: &t.tree };
     show::traced(tree, &input[n..], out)

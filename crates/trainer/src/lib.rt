@@ -7,6 +7,7 @@ ghost use Rattle.trainer.specs.Calls.{start_of, question_of, answer_counts_of, a
 ghost use Rattle.trainer.specs.Change.{change_of};
 
 use crate::inner::accepted::Accepted;
+use crate::inner::counting;
 use crate::settings::Settings;
 use refusal::Refusal;
 use remy::action::Action;
@@ -67,15 +68,10 @@ impl Trainer {
         Ok(Accepted::of(&self)?.asked())
     }
 
-    #[tactic(auto, using(std::proofs::lemmas::Bool::Decides::nat_tests), unfolding(crate::specs::Phase::phase_of, crate::specs::Calls::answer_counts_of))]
     pub fn answer_counts(self, counts: &[u64]) -> Result<Trainer, Refusal>
         ensures { result ≡ answer_counts_of self counts.now }
     {
-        let t = Accepted::of(&self)?;
-        if !t.phase.wants_counts() {
-            return Err(Refusal::NotAsked);
-        }
-        t.counting(counts)?.counted()
+        counting::answered(&self, counts)
     }
 
     #[tactic(auto, using(std::proofs::lemmas::Bool::Decides::nat_tests), unfolding(crate::specs::Phase::phase_of, crate::specs::Calls::answer_score_of))]

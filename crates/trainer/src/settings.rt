@@ -3,11 +3,11 @@ ghost use Rattle.std.specs.Prelude.{◌≡◌, true};
 ghost use Rattle.trainer.specs.Settings.{numbers_hold, actions_hold, changes_hold, axes_hold, settings_hold};
 ghost use Rattle.trainer.specs.Axes.{multipliers, increments, delays};
 
+use crate::inner::axes;
 use crate::inner::axis::Axis;
 use remy::action::Action;
 use remy::point::Point;
 use rule_tree::MOST_SPLITS;
-use rule_tree::inner::links;
 
 // The most rounds of tuning for a split.
 const MOST_ROUNDS: u32 = 1000;
@@ -36,15 +36,11 @@ impl Settings {
     pub fn hold(self) -> bool
         ensures { result ≡ settings_hold self }
     {
-        self.numbers_hold()
-            && self.actions_hold()
-            && self.changes_hold()
-            && self.axes_end()
-            && links::ends_hold(self.ends)
+        self.numbers_hold() && self.actions_hold() && self.changes_hold() && axes::ranges_hold(self)
     }
 
     #[tactic(auto, using(std::proofs::lemmas::Bool::Decides::nat_tests), unfolding(crate::specs::Settings::numbers_hold))]
-    fn numbers_hold(self) -> bool
+    pub fn numbers_hold(self) -> bool
         ensures { result ≡ numbers_hold self }
     {
         self.rule_splits <= u32::from(MOST_SPLITS)
@@ -55,7 +51,7 @@ impl Settings {
 
     // Five tests by `&&`: an array of the five for an iterator's `all` is longer.
     #[tactic(auto, using(std::proofs::lemmas::Bool::Decides::nat_tests), unfolding(crate::specs::Settings::actions_hold))]
-    fn actions_hold(self) -> bool
+    pub fn actions_hold(self) -> bool
         ensures { result ≡ actions_hold self }
     {
         self.min_action.valid()
@@ -66,7 +62,7 @@ impl Settings {
     }
 
     #[tactic(auto, using(std::proofs::lemmas::Bool::Decides::nat_tests), unfolding(crate::specs::Settings::changes_hold))]
-    fn changes_hold(self) -> bool
+    pub fn changes_hold(self) -> bool
         ensures { result ≡ changes_hold self }
     {
         let first = self.initial_action_change;
@@ -79,7 +75,7 @@ impl Settings {
 
     // Whether each axis has at most eight values.
     #[tactic(auto, using(std::proofs::lemmas::Bool::Decides::nat_tests), unfolding(crate::specs::Settings::axes_hold))]
-    fn axes_end(self) -> bool
+    pub(crate) fn axes_end(self) -> bool
         requires numbers { numbers_hold self ≡ true }
         requires changes { changes_hold self ≡ true }
         ensures { result ≡ axes_hold self }

@@ -8,9 +8,16 @@ use record::inner::layout::{LENGTH_SIZE, MOST_LENGTH};
 use refusal::Refusal;
 use wire::inner::read;
 
-// How many bytes the record has: the first four say how many follow them.
+// How many bytes the record has by its first four, which say how many follow them.
+pub fn record_size(input: &[u8]) -> usize
+    ensures { result ≡ 4 + number_at input.now 0 4 }
+{
+    LENGTH_SIZE + read::word_at(input, 0) as usize
+}
+
+// How many bytes the record has, where the input has as many.
 #[tactic(auto, using(std::proofs::lemmas::Bool::Decides::nat_tests), unfolding(crate::specs::Panel::start_holds))]
-pub fn record_size(input: &[u8]) -> Result<usize, Refusal>
+pub fn record_within(input: &[u8]) -> Result<usize, Refusal>
     ensures { MatchResult result
         (λ n. (start_holds input.now ≡ true) × (n ≡ 4 + number_at input.now 0 4) × (n ≤ length input.now))
         (λ r. (r ≡ BadLength) × (start_holds input.now ≡ false)) }

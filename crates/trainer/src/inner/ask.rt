@@ -1,10 +1,23 @@
 // What a trainer asks for.
 ghost use Rattle.std.specs.Prelude.{◌≡◌};
-ghost use Rattle.trainer.specs.Calls.{progress_of, asked_of};
+ghost use Rattle.trainer.specs.Calls.{progress_of, asked_of, wants_counts, wants_score};
 
 use crate::Question;
 use crate::inner::accepted::Accepted;
 use crate::phase::Phase;
+
+// Whether counts are asked for in the phase of a number, which may be none.
+pub fn wants_counts(phase: u8) -> bool
+    ensures { result ≡ wants_counts phase }
+{
+    matches!(phase, 1 | 2 | 3 | 6)
+}
+
+pub fn wants_score(phase: u8) -> bool
+    ensures { result ≡ wants_score phase }
+{
+    matches!(phase, 4 | 5)
+}
 
 impl<'a> Accepted<'a> {
     // The stage over the number of stages.

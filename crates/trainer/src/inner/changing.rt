@@ -4,48 +4,65 @@ ghost use Rattle.trainer.specs.Change.{phase_fits, round_fits, settings_fit, cha
 
 use crate::Trainer;
 use crate::inner::accepted::Accepted;
-use crate::inner::begin::Place;
-use crate::phase::Phase;
+use crate::inner::{ask, begin};
 use crate::settings::Settings;
 
-impl<'a> Accepted<'a> {
-    // The phase and the round are ones that training can go on from.
-    #[tactic(auto, using(std::proofs::lemmas::Bool::Decides::nat_tests), unfolding(crate::specs::Phase::phase_of, crate::specs::Change::phase_fits, crate::specs::Change::round_fits))]
-    fn goes_on(self, rounds: u32) -> bool
-        ensures { result ≡ (phase_fits self.entry.trainer.now.phase && round_fits self.entry.trainer.now.phase self.entry.trainer.now.round rounds) }
-    {
-        match self.phase {
-            Phase::Split | Phase::Drill => true,
-            Phase::Choose | Phase::Own | Phase::Try => self.trainer.round < rounds,
-            Phase::Last | Phase::Done => false,
-        }
+// The phase and the round are ones that training can go on from.
+#[tactic(auto, using(std::proofs::lemmas::Bool::Decides::nat_tests), unfolding(crate::specs::Change::phase_fits, crate::specs::Change::round_fits))]
+fn goes_on(phase: u8, round: u32, rounds: u32) -> bool
+    ensures { result ≡ (phase_fits phase && round_fits phase round rounds) }
+{
+    match phase {
+        3..=5 => round < rounds,
+        6 | 7 => false,
+        _ => true,
     }
+}
 
+#[tactic(auto, using(std::proofs::lemmas::Bool::Decides::nat_tests, remy::proofs::Equality::points_equal), unfolding(crate::specs::Change::settings_fit))]
+fn fits(t: &Trainer, s: &Settings) -> bool
+    ensures { result ≡ settings_fit t.now s.now }
+{
+    t.settings.ends == s.ends
+        && t.stage <= s.rule_splits
+        && goes_on(t.phase, t.round, s.optimization_rounds_per_split)
+}
+
+#[tactic(auto, unfolding(crate::specs::Change::changed_to))]
+fn with_settings(t: &Trainer, s: Settings) -> Trainer
+    ensures { result ≡ changed_to t.now s }
+{
+    if ask::wants_score(t.phase) {
+        return begin::ask_leaf(s, t.tree, t.stage, t.round, t.leaf);
+    }
+    begin::stand_at(s, t.tree, t.phase, t.stage, t.round)
+}
+
+// Whether a trainer, accepted or not, fits these settings.
+pub fn settings_fit(t: Trainer, s: Settings) -> bool
+    ensures { result ≡ settings_fit t s }
+{
+    fits(&t, &s)
+}
+
+// A trainer, accepted or not, with these settings: at a leaf the candidates are dropped, and its own action is asked for again.
+pub fn changed(t: Trainer, s: Settings) -> Trainer
+    ensures { result ≡ changed_to t s }
+{
+    with_settings(&t, s)
+}
+
+impl<'a> Accepted<'a> {
     // Whether the training can take these settings.
-    #[tactic(auto, using(std::proofs::lemmas::Bool::Decides::nat_tests, remy::proofs::Equality::points_equal), unfolding(crate::specs::Change::settings_fit))]
     pub fn takes(self, s: &Settings) -> bool
         ensures { result ≡ settings_fit self.entry.trainer.now s.now }
     {
-        let t = self.trainer;
-        t.settings.ends == s.ends
-            && t.stage <= s.rule_splits
-            && self.goes_on(s.optimization_rounds_per_split)
+        fits(self.trainer, s)
     }
 
-    // At a leaf the candidates are dropped, and its own action is asked for again.
-    #[tactic(auto, using(std::proofs::lemmas::Bool::Decides::nat_tests), unfolding(crate::specs::Phase::phase_of, crate::specs::Change::changed_to))]
     pub fn changed(self, s: Settings) -> Trainer
         ensures { result ≡ changed_to self.entry.trainer.now s }
     {
-        let t = self.trainer;
-        let place = Place {
-            settings: s,
-            ..Place::of(t)
-        };
-        if self.phase.wants_score() {
-            place.ask_leaf(t.leaf)
-        } else {
-            place.stand_at(self.phase)
-        }
+        with_settings(self.trainer, s)
     }
 }

@@ -4,7 +4,7 @@ ghost use Rattle.refusal.specs.declared.Refusal.TheVariants.{BadCounts, FullTree
 ghost use Rattle.rule_tree.specs.Nodes.{slots, most_splits};
 ghost use Rattle.rule_tree.specs.Counts.{counts_hold};
 ghost use Rattle.trainer.specs.Phases.{most_used_in, chosen_leaf, split_most_used, phase1, phase2, next_round, tune_next, phase6};
-ghost use Rattle.trainer.specs.Calls.{counts_step_of};
+ghost use Rattle.trainer.specs.Calls.{counts_step_of, answer_counts_of};
 
 use crate::Trainer;
 use crate::inner::accepted::Accepted;
@@ -39,6 +39,18 @@ impl<'a> Accepted<'a> {
     }
 }
 
+// An answer with counts to any trainer, which is lent: by value it would be a copy of 12 KB more.
+#[tactic(auto, using(std::proofs::lemmas::Bool::Decides::nat_tests), unfolding(crate::specs::Phase::phase_of, crate::specs::Calls::answer_counts_of))]
+pub fn answered(t: &Trainer, counts: &[u64]) -> Result<Trainer, Refusal>
+    ensures { result ≡ answer_counts_of t.now counts.now }
+{
+    let t = Accepted::of(t)?;
+    if !t.phase.wants_counts() {
+        return Err(Refusal::NotAsked);
+    }
+    t.counting(counts)?.counted()
+}
+
 // A leaf's share is 0 where its count is and the total is not.
 fn no_share(count: u64, total: u64) -> bool
     ensures { result ≡ (eqb count 0 && not (eqb total 0)) }
@@ -68,18 +80,20 @@ impl<'a> Counting<'a> {
         counts::most_used(&self.asked.trainer.tree, self.counts, false).unwrap()
     }
 
-    // The tree with its most used leaf split, if it has room.
-    fn split_most_used(self) -> Result<RuleTree, Refusal>
-        ensures { MatchResult result
-            (λ tree. (tree ≡ split_most_used self.entry.asked.trainer.now.tree self.entry.counts.now)
-            × (ltb self.entry.asked.trainer.now.tree.splits most_splits ≡ true))
-            (λ r. (r ≡ FullTree) × (ltb self.entry.asked.trainer.now.tree.splits most_splits ≡ false)) }
+    // Whether the tree has no room for a split.
+    #[tactic(auto, using(std::proofs::lemmas::Bool::Decides::nat_tests))]
+    fn is_full(self) -> bool
+        ensures { result ≡ not (ltb self.entry.asked.trainer.now.tree.splits most_splits) }
     {
-        let tree = self.asked.trainer.tree;
-        if tree.splits >= MOST_SPLITS {
-            return Err(Refusal::FullTree);
-        }
-        Ok(change::split_at(tree, self.most_used_leaf()))
+        self.asked.trainer.tree.splits >= MOST_SPLITS
+    }
+
+    // The tree with its most used leaf split. The tree itself, and no Result of it: each would be a copy of 12 KB more on the stack.
+    fn split_most_used(self) -> RuleTree
+        requires { ltb self.asked.trainer.now.tree.splits most_splits ≡ true }
+        ensures { result ≡ split_most_used self.entry.asked.trainer.now.tree self.entry.counts.now }
+    {
+        change::split_at(self.asked.trainer.tree, self.most_used_leaf())
     }
 
     // Phase 1: split the most used, and go on splitting in a drill where at most one leaf was used.
@@ -88,10 +102,14 @@ impl<'a> Counting<'a> {
         ensures { result ≡ phase1 self.entry.asked.trainer.now self.entry.counts.now }
     {
         let t = self.asked.trainer;
+        if self.is_full() {
+            return Err(Refusal::FullTree);
+        }
         let next = Place {
-            tree: self.split_most_used()?,
+            settings: t.settings,
+            tree: self.split_most_used(),
+            stage: t.stage,
             round: 0,
-            ..Place::of(t)
         };
         Ok(if t.settings.drill_down && counts::used(self.counts) <= 1 {
             next.stand_at(Phase::Drill)
@@ -105,16 +123,22 @@ impl<'a> Counting<'a> {
     fn split_again(self) -> Result<Trainer, Refusal>
         ensures { result ≡ phase2 self.entry.asked.trainer.now self.entry.counts.now }
     {
-        let place = Place {
-            round: 0,
-            ..Place::of(self.asked.trainer)
-        };
+        let t = self.asked.trainer;
         if 1 < counts::used(self.counts) {
+            let place = Place {
+                round: 0,
+                ..Place::of(t)
+            };
             return Ok(place.begin_round());
         }
+        if self.is_full() {
+            return Err(Refusal::FullTree);
+        }
         let more = Place {
-            tree: self.split_most_used()?,
-            ..place
+            settings: t.settings,
+            tree: self.split_most_used(),
+            stage: t.stage,
+            round: 0,
         };
         Ok(more.stand_at(Phase::Drill))
     }
@@ -125,9 +149,10 @@ impl<'a> Counting<'a> {
     {
         let t = self.asked.trainer;
         let next = Place {
+            settings: t.settings,
             tree: change::without_marks(t.tree),
+            stage: t.stage,
             round: t.round + 1,
-            ..Place::of(t)
         };
         next.begin_round()
     }

@@ -49,9 +49,12 @@ impl<'a> AtLeaf<'a> {
     fn marked(self, tree: RuleTree) -> Trainer
         ensures { result ≡ marked self.entry.trainer.now tree }
     {
+        let t = self.trainer;
         let place = Place {
-            tree: change::with_mark(tree, self.trainer.leaf),
-            ..Place::of(self.trainer)
+            settings: t.settings,
+            tree: change::with_mark(tree, t.leaf),
+            stage: t.stage,
+            round: t.round,
         };
         place.stand_at(Phase::Choose)
     }
