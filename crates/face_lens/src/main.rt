@@ -44,9 +44,9 @@ impl Left {
     // The names of the fields that changed; whether all are as by value.
     fn fields(self) -> bool {
         let same = [
-            self.field(b" last_ack", |s| s.last_ack),
-            self.field(b" last_ack_send", |s| s.last_ack_send),
-            self.field(b" last_send", |s| s.last_send),
+            self.field(b" last_ack", |s| s.last_ack.map(|at| at.held())),
+            self.field(b" last_ack_send", |s| s.last_ack_send.map(|at| at.held())),
+            self.field(b" last_send", |s| s.last_send.map(|at| at.held())),
             self.field(b" ack_ewma", |s| s.ack_ewma),
             self.field(b" send_ewma", |s| s.send_ewma),
             self.field(b" shortest", |s| s.rtt.map(|rtt| rtt.shortest)),

@@ -1,11 +1,11 @@
 // The draw that a generator gives a sender, whether one is due, and when the generator steps.
 ghost use Rattle.std.specs.Prelude.{◌≡◌};
-ghost use Rattle.own_draws.specs.OwnDraws.{refused_with, draw_in, due_of, generator_after, drawn_ack};
+ghost use Rattle.own_draws.specs.OwnDraws.{refused_with, draw_in, due_in, due_of, generator_after, drawn_ack};
 
 use crate::Drawing;
 use refusal::Refusal;
 use rule_tree::inner::rules::Rules;
-use sender::{Ack, Held, RepeatMode, Sender};
+use sender::{Ack, Held, Repeat, RepeatMode, Sender};
 use xoshiro::State;
 
 pub fn refused(refusal: Refusal, generator: State) -> Drawing
@@ -28,12 +28,19 @@ pub fn draw_in(mode: RepeatMode, output: u64) -> Option<u32>
     }
 }
 
-// Whether a sender's next ack has a draw due: the mode is lo..=hi, and no repeat is pending.
+// Whether an ack has a draw due: the mode is lo..=hi, and no repeat is pending.
 #[tactic(auto, unfolding(crate::specs::OwnDraws::due_in, crate::specs::OwnDraws::between_in))]
-pub fn due_in(s: Sender) -> bool
+pub fn due_in(mode: RepeatMode, pending: Option<Repeat>) -> bool
+    ensures { result ≡ due_in mode pending }
+{
+    pending.is_none() && matches!(mode, RepeatMode::Between(_, _))
+}
+
+// The same of a sender's next ack.
+pub fn due_of(s: Sender) -> bool
     ensures { result ≡ due_of s }
 {
-    s.next_change.is_none() && matches!(s.repeat_actions, RepeatMode::Between(_, _))
+    due_in(s.repeat_actions, s.next_change)
 }
 
 // The generator after an ack: stepped where the ack is taken and had a draw due, else the one that came.
@@ -66,7 +73,7 @@ pub fn taken(rules: &Rules<'_>, s: Sender, generator: State, sent: f64, received
             draw,
         },
     );
-    let due = due_in(s);
+    let due = due_of(s);
     Drawing {
         reply,
         generator: generator_after(due, reply, generator, next.state),

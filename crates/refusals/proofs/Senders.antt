@@ -3,7 +3,7 @@
 use mathlib.Core.Path.{◌≡◌, refl, ap, ◌∙◌}
 use mathlib.Core.Bool.{cond}
 use lib.Ieee.{Float}
-use Rattle.std.specs.Prelude.{None, Result, Ok, Err}
+use Rattle.std.specs.Prelude.{Option, None, Some, Result, Ok, Err}
 use Rattle.refusal.specs.declared.Refusal.{Refusal}
 use Rattle.refusal.specs.declared.Refusal.TheVariants.{NotAdmitted}
 use Rattle.refusal.specs.Guards.{first_refused, pass}
@@ -18,7 +18,7 @@ use Rattle.sender_face.specs.declared.Answer.{Answer}
 use Rattle.sender_face.specs.Face.{window_from}
 use Rattle.refusals.specs.Told.{Told, maybe_told, result_told, reply_told, told_by}
 use Rattle.refusals.specs.Order.{admit_order, made_order, send_order, wake_order}
-use Rattle.refusals.specs.Gives.{admit_gives, made_gives, send_gives, wake_gives}
+use Rattle.refusals.specs.Gives.{admit_gives, made_gives, send_gives, wake_after, wake_gives}
 use Rattle.refusals.proofs.Ways.{tells, maybe_tells, result_number, result_gives, chained}
 
 -- ---- a moment, and a new sender
@@ -81,11 +81,17 @@ pub face_send_keeps : (s : Sender) (at : Float) → ((result_told (window_from (
 face_send_keeps s at = face_keeps s (send_of s at)
 
 -- ---- the next wake
+wake_in_gives : (s : Sender) (m : Option Time) (now : Time) → wake_in s m now ≡ wake_after m s.intersend_delay now
+unfolding wake_in wake_after
+wake_in_gives s None now = refl
+wake_in_gives s (Some sent) now = refl
+
 wake_told : (s : Sender) (now : Float) → maybe_told (wake_of s now) ≡ told_by (wake_order now) (wake_gives s now)
 unfolding wake_admitted admit_of
 wake_told s now =
     ap maybe_told (chained (λ (t : Time). Ok (wake_in s s.last_send t)) (moment (read_moment now)) NotAdmitted (admitted now))
-    ∙ maybe_tells (wake_order now) (wake_gives s now)
+    ∙ maybe_tells (wake_order now) (wake_in s s.last_send (moment (read_moment now)))
+    ∙ ap (told_by (wake_order now)) (wake_in_gives s s.last_send (moment (read_moment now)))
 
 pub wake_number : (s : Sender) (now : Float) → (maybe_told (wake_of s now)).number ≡ first_refused (wake_order now)
 wake_number s now = ap (λ (r : Told Time). r.number) (wake_told s now)

@@ -15,10 +15,10 @@ use Rattle.remy.specs.declared.action.Action.{Action}
 use Rattle.rule_tree.specs.Counts.{counts_hold, used_in}
 use Rattle.trainer.specs.declared.settings.Settings.{Settings}
 use Rattle.trainer.specs.declared.Trainer.{Trainer}
-use Rattle.trainer.specs.Candidates.{candidate_order, candidate_of}
+use Rattle.trainer.specs.Candidates.{pick_of, candidate_order, candidate_of}
 use Rattle.trainer.specs.State.{accepted_of}
 use Rattle.trainer.specs.Phases.{phase1, phase2}
-use Rattle.trainer.specs.Calls.{start_order, question_order, score_order, start_of, question_of, wants_counts, counts_step_of, answer_counts_of, answer_score_of}
+use Rattle.trainer.specs.Calls.{start_order, question_order, score_order, start_of, asked_of, question_of, wants_counts, counts_step_of, answer_counts_of, answer_score_of}
 use Rattle.trainer.specs.Change.{change_order, change_of}
 use Rattle.refusals.specs.Told.{result_told}
 use Rattle.refusals.specs.Order.{left_after, splits_on, answer_counts_order}
@@ -34,7 +34,7 @@ unfolding question_of
 question_number t = result_number (question_order t) _
 
 pub question_gives_lem : (t : Trainer) → (result_told (question_of t)).gives ≡ cond (pass (question_order t)) (question_gives t) None
-unfolding question_of
+unfolding question_of asked_of
 question_gives_lem t = result_gives (question_order t) _
 
 pub candidate_number : (s : Settings) (a : Action) (k : ℕ) → (result_told (candidate_of s a k)).number ≡ first_refused (candidate_order s a)
@@ -43,7 +43,7 @@ candidate_number s a k = result_number (candidate_order s a) _
 
 pub candidate_gives_lem : (s : Settings) (a : Action) (k : ℕ)
     → (result_told (candidate_of s a k)).gives ≡ cond (pass (candidate_order s a)) (candidate_gives s a k) None
-unfolding candidate_of
+unfolding candidate_of pick_of
 candidate_gives_lem s a k = result_gives (candidate_order s a) _
 
 pub answer_score_number : (t : Trainer) (x : Float) → (result_told (answer_score_of t x)).number ≡ first_refused (score_order t)

@@ -1,7 +1,8 @@
 -- 01: what each call whose answer is an enum gives where it is taken.
-use Rattle.std.specs.Prelude.{Bool, false, not, cond, List, ℕ, length, eqb, Float, Option, None, Some}
+use Rattle.std.specs.Prelude.{Bool, false, not, cond, List, ℕ, length, get_or, eqb, ltb, Float, Option, None, Some}
 use Rattle.quantities.specs.declared.Time.{Time}
-use Rattle.quantities.specs.Time.{moment, read_moment}
+use Rattle.quantities.specs.declared.TimeSpan.{TimeSpan}
+use Rattle.quantities.specs.Time.{moment, read_moment, moved, later_of}
 use Rattle.remy.specs.declared.action.Action.{Action}
 use Rattle.remy.specs.declared.point.Point.{Point}
 use Rattle.remy.specs.declared.cube.Cube.{Cube}
@@ -21,15 +22,17 @@ use Rattle.trainer.specs.declared.settings.Settings.{Settings}
 use Rattle.trainer.specs.declared.candidates.Candidate.{Candidate}
 use Rattle.trainer.specs.declared.Trainer.{Trainer}
 use Rattle.trainer.specs.declared.Question.{Question}
-use Rattle.trainer.specs.Candidates.{candidates_of, pick_of}
-use Rattle.trainer.specs.Calls.{asked_of}
+use Rattle.trainer.specs.declared.Question.TheVariants as question
+use Rattle.trainer.specs.Candidates.{candidates_of, no_candidate}
+use Rattle.trainer.specs.State.{leaf_action}
+use Rattle.trainer.specs.Calls.{progress_of}
 use Rattle.record.specs.Write.{record_of}
 use Rattle.panel_lines.specs.Panel.{text_of}
 use Rattle.sender.specs.declared.Repeat.{Repeat}
 use Rattle.sender.specs.declared.RepeatMode.{RepeatMode}
 use Rattle.sender.specs.declared.Sender.{Sender}
 use Rattle.sender.specs.Acks.{window_in, window_now}
-use Rattle.sender.specs.Sender.{fresh_sender, ack_of, left_by, wake_in}
+use Rattle.sender.specs.Sender.{fresh_sender, ack_of, left_by}
 use Rattle.sender_face.specs.declared.Answer.{Answer}
 use Rattle.refusals.specs.Order.{ack_point}
 
@@ -71,11 +74,17 @@ equal_gives a b = Some (trees_equal a b)
 -- ---- the trainer
 -- "the phase's kind, with leaf and action in 4 and 5, and progress"
 abbrev pub question_gives : Trainer → Option Question
-question_gives t = Some (asked_of t)
+question_gives t =
+    Some
+    (cond (eqb t.phase 4) (question.Score t.leaf (leaf_action t) (progress_of t))
+    (cond (eqb t.phase 5) (question.Score t.leaf (get_or (candidates_of t.settings (leaf_action t)) t.k no_candidate) (progress_of t))
+    (cond (eqb t.phase 7) (question.Done (progress_of t)) (question.Counts (progress_of t)))))
 
 -- "the list's length with candidate k, or with none where k is past the end"
 abbrev pub candidate_gives : Settings → Action → ℕ → Option Candidate
-candidate_gives s a k = Some (pick_of (candidates_of s a) k)
+candidate_gives s a k =
+    let xs = candidates_of s a in
+    Some (record { length = length xs; action = cond (ltb k (length xs)) (Some (get_or xs k no_candidate)) None })
 
 -- ---- the record and the panel: the size
 abbrev pub save_gives : Trainer → Option ℕ
@@ -120,5 +129,9 @@ abbrev pub send_gives : Option Answer
 send_gives = Some (handed 0 false)
 
 -- "Next wake: the greater of now and send + wait, or none"
+unfoldable pub wake_after : Option Time → TimeSpan → Time → Option Time
+wake_after None wait now = None
+wake_after (Some sent) wait now = Some (later_of now (moved sent wait))
+
 abbrev pub wake_gives : Sender → Float → Option Time
-wake_gives s now = wake_in s s.last_send (moment (read_moment now))
+wake_gives s now = wake_after s.last_send s.intersend_delay (moment (read_moment now))

@@ -21,7 +21,9 @@ impl Sender {
         if let Some(repeat) = m.next_change {
             return Ok(acks::settle(m, repeat.action, repeat.next()));
         }
-        let a = rules.find(memory::point(m)).ok_or(Refusal::NoRule)?;
+        let Some(a) = rules.find(memory::point(m)) else {
+            return Err(Refusal::NoRule);
+        };
         let next = acks::draw_next(m.repeat_actions, x.draw, a)?;
         Ok(acks::settle(m, a, next))
     }
