@@ -18,7 +18,7 @@ use Rattle.trainer.proofs.Steps.{kept_none, kept_number}
 use Rattle.trainer.specs.Fields.{keeps_in}
 use Rattle.trainer.proofs.CandidateLaws.{candidate_valid, candidates_few}
 use Rattle.host_answers.specs.declared.inner.steps.Tuned.{Tuned}
-use Rattle.host_answers.specs.Parts.{begin_of, next_of, finished_of, last_of, tried_of, step_of, Tuning, Among, Counted}
+use Rattle.host_answers.specs.Parts.{begin_of, next_of, finished_of, last_of, tried_of, noted_of, step_of, Tuning, Among, Counted}
 
 module _ (s : Settings) (u : Tuned) where
   pub k_few : Tuning s u → u.k < 4096
@@ -55,14 +55,34 @@ module _ (s : Settings) (u : Tuned) (kept : ℕ) (score : Float) where
   unfolding tried_of
   tried_last l q = rw (le-ltb (u.k + 1) u.count l) q
 
-module _ (s : Settings) (u : Tuned) (x : Float) {r : Tuned} where
-  pub step_kept : keeps_in u.best u.kept u.score x ≡ true → r ≡ tried_of s u u.k x → r ≡ step_of s u x
+module _ (s : Settings) (u : Tuned) (x : Float) where
+  pub step_kept : {r : Tuned} → keeps_in u.best u.kept u.score x ≡ true → r ≡ tried_of s u u.k x → r ≡ step_of s u x
   unfolding step_of
   step_kept h q = rw h q
 
-  pub step_passed : keeps_in u.best u.kept u.score x ≡ false → r ≡ tried_of s u u.kept u.score → r ≡ step_of s u x
+  pub step_passed : {r : Tuned} → keeps_in u.best u.kept u.score x ≡ false → r ≡ tried_of s u u.kept u.score → r ≡ step_of s u x
   unfolding step_of
   step_passed h q = rw h q
+
+  pub noted_among : {n : ℕ × Float} → Tuning s u → Among u u.kept → n ≡ noted_of u x → Among u n.0
+  unfolding noted_of
+  noted_among {n} h m e = subst (λ (p : ℕ × Float). Among u p.0) (sym e) (go (keeps_in u.best u.kept u.score x))
+    where
+      go : (b : Bool) → Among u (cond {A = ℕ × Float} b (u.k, x) (u.kept, u.score)).0
+      go true = k_among s u h
+      go false = m
+
+  noted_step : tried_of s u (noted_of u x).0 (noted_of u x).1 ≡ step_of s u x
+  unfolding noted_of step_of
+  noted_step = go (keeps_in u.best u.kept u.score x)
+    where
+      go : (b : Bool) → tried_of s u (cond {A = ℕ × Float} b (u.k, x) (u.kept, u.score)).0 (cond {A = ℕ × Float} b (u.k, x) (u.kept, u.score)).1
+          ≡ cond b (tried_of s u u.k x) (tried_of s u u.kept u.score)
+      go true = refl
+      go false = refl
+
+  pub step_noted : {n : ℕ × Float} {r : Tuned} → n ≡ noted_of u x → r ≡ tried_of s u n.0 n.1 → r ≡ step_of s u x
+  step_noted e q = q ∙ ap (λ (p : ℕ × Float). tried_of s u p.0 p.1) e ∙ noted_step
 
 -- ---- the count stays that of the action, or is 0
 module _ (s : Settings) (u : Tuned) where

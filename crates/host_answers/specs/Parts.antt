@@ -47,6 +47,10 @@ unfoldable pub tried_of : Settings → Tuned → ℕ → Float → Tuned
 unfolding last_of
 tried_of s u kept score = cond (ltb (u.k + 1) u.count) (next_of u (u.k + 1) kept score) (last_of s u kept score)
 
+-- what is kept after the score of candidate k, and its score
+unfoldable pub noted_of : Tuned → Float → ℕ × Float
+noted_of u x = cond (keeps_in u.best u.kept u.score x) (u.k, x) (u.kept, u.score)
+
 -- the score of candidate k
 unfoldable pub step_of : Settings → Tuned → Float → Tuned
 unfolding tried_of

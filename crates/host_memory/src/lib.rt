@@ -5,7 +5,6 @@
 ghost use Rattle.std.specs.Prelude.{◌≡◌, ◌+◌, ◌≤◌, length};
 ghost use Rattle.std.proofs.lemmas.List.Edits.{sets};
 ghost use Rattle.rule_tree.specs.Calls.{opened_in};
-ghost use Rattle.host_trainer.specs.Lookups.{found_bytes};
 ghost use Rattle.host_memory.specs.Within.{range_at, ranges_in, listed_in, listed_after, within_in, within_after};
 ghost use Rattle.host_memory.specs.Tested.{row_of, tested_in, tested_after};
 
@@ -14,7 +13,6 @@ use host_trainer::inner::{lookups, rows};
 use ranges::inner::found_in;
 use ranges::{Range, Ranges};
 use refusal::Refusal;
-use remy::action::Action;
 use remy::point::Point;
 use rule_tree::Lookup;
 use rule_tree::inner::grown::Grown;
@@ -77,24 +75,13 @@ struct Opens<'a> {
     rules: Rules<'a>,
 }
 
-#[tactic(auto, unfolding(host_trainer::specs::Lookups::found_bytes))]
-fn put_looked(out: &mut [u8], at: usize, found: Result<Option<Action>, Refusal>)
-    requires { at + 21 ≤ length out.old }
-    ensures { out.new ≡ sets out.old at (found_bytes found) }
-{
-    match found {
-        Ok(found) => lookups::put_found(out, at, found),
-        Err(_) => lookups::put_found(out, at, None),
-    }
-}
-
 // What a point finds, and the number of cubes tested in two bytes.
 #[tactic(auto, using(crate::proofs::Tested::row_put))]
 fn put_row(out: &mut [u8], at: usize, l: Lookup)
     requires { at + 23 ≤ length out.old }
     ensures { out.new ≡ sets out.old at (row_of l) }
 {
-    put_looked(out, at, l.found);
+    lookups::put_found(out, at, l.found);
     write::put(out, at + 21, 2, u64::from(l.tested));
 }
 

@@ -25,8 +25,7 @@ pub fn start(settings: &[u8], out: &mut [u8]) -> Result<usize, Refusal>
 pub fn question(held: &[u8], out: &mut [u8]) -> Result<usize, Refusal>
     ensures { (result ≡ asked_in_of held.now out.old) × (out.new ≡ asked_after held.now out.old) }
 {
-    let t = record::load(held)?;
-    questions::asked(t, out)
+    questions::asked(record::load(held), out)
 }
 
 pub fn answer_counts(held: &[u8], counts: &[u8], out: &mut [u8]) -> Result<usize, Refusal>

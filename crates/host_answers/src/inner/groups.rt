@@ -65,7 +65,7 @@ impl<'a> Group<'a> {
         ensures { result ≡ answers_on self.entry.kind self.entry.body.now t.entry.trainer.now }
     {
         match self.kind {
-            Kind::Counts => records::counted_by(*t.trainer, self.body),
+            Kind::Counts => records::counted_of(t.trainer, self.body),
             Kind::Scores => t.scores_on(self.body),
         }
     }

@@ -1,7 +1,7 @@
 // The tuning of one leaf, score by score, on a small state; no tree is touched. The trainer's own steps give a trainer each, with its tree of
 // 12 KB: so a list of many scores takes these, and one trainer is built at its end.
 ghost use Rattle.std.specs.Prelude.{◌≡◌};
-ghost use Rattle.host_answers.specs.Parts.{begin_of, last_of, tried_of, step_of, Tuning, Among};
+ghost use Rattle.host_answers.specs.Parts.{begun_with, begin_of, noted_of, last_of, tried_of, step_of, Tuning, Among};
 
 use remy::action::Action;
 use trainer::inner::kept::{NONE, kept_of};
@@ -21,11 +21,10 @@ pub struct Tuned {
     pub count: u32,
 }
 
-// An action whose candidates are tried from the first on. It is copied field by field: so the loop over scores keeps it in registers.
-pub fn begun(list: Candidates<'_>, best: f64) -> Tuned
-    ensures { result ≡ begin_of list.entry.settings.now list.entry.action best }
+// An action whose candidates, count of them, are tried from the first on. It is copied field by field: so the loop over scores keeps it in registers.
+pub fn begun(a: Action, best: f64, count: u32) -> Tuned
+    ensures { result ≡ begun_with a best count }
 {
-    let a = list.action;
     let delay = a.intersend_delay;
     let action = Action {
         window_multiplier: a.window_multiplier,
@@ -38,8 +37,15 @@ pub fn begun(list: Candidates<'_>, best: f64) -> Tuned
         k: 0,
         kept: NONE,
         score: 0.0,
-        count: list.len(),
+        count,
     }
+}
+
+// The same by the list of its candidates.
+pub fn begun_by(list: Candidates<'_>, best: f64) -> Tuned
+    ensures { result ≡ begin_of list.entry.settings.now list.entry.action best }
+{
+    begun(list.action, best, list.len())
 }
 
 // A small state whose candidate k has a score now, by the settings that list its action's candidates.
@@ -73,7 +79,7 @@ impl<'a> Step<'a> {
             settings: self.settings,
             action: list.at(k),
         };
-        begun(next, score)
+        begun_by(next, score)
     }
 
     // The next candidate, with what is kept so far.
@@ -93,15 +99,24 @@ impl<'a> Step<'a> {
         self.adopted(kept, score)
     }
 
-    // The score of candidate k.
-    pub fn scored(self, x: f64) -> Tuned
-        ensures { result ≡ step_of self.entry.settings.now self.entry.from x }
+    // What is kept after the score of candidate k, and its score.
+    #[tactic(auto, using(std::proofs::lemmas::Bool::Decides::nat_tests), unfolding(crate::specs::Parts::noted_of))]
+    fn noted(self, x: f64) -> (u16, f64)
+        ensures { result ≡ noted_of self.entry.from x }
     {
         let u = self.from;
         if scoring::keeps(u.best, u.kept, u.score, x) {
-            self.tried(u.k, x)
+            (u.k, x)
         } else {
-            self.tried(u.kept, u.score)
+            (u.kept, u.score)
         }
+    }
+
+    // The score of candidate k. One call of `tried`, not one in each branch: so the compiler puts it into the loop over scores.
+    pub fn scored(self, x: f64) -> Tuned
+        ensures { result ≡ step_of self.entry.settings.now self.entry.from x }
+    {
+        let (kept, score) = self.noted(x);
+        self.tried(kept, score)
     }
 }

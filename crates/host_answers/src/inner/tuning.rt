@@ -39,8 +39,10 @@ fn built(t: &Trainer, u: Tuned) -> Trainer
     let tree = change::with_action(t.tree, t.leaf, u.action);
     if u.count == 0 {
         let place = Place {
+            settings: t.settings,
             tree: change::with_mark(tree, t.leaf),
-            ..Place::of(t)
+            stage: t.stage,
+            round: t.round,
         };
         return place.stand_at(Phase::Choose);
     }
@@ -93,7 +95,7 @@ impl<'a> Loaded<'a> {
         match phase {
             Phase::Own => {
                 let at = AtLeaf { trainer };
-                let first = steps::begun(at.candidates(), read::float_at(scores, 0));
+                let first = steps::begun_by(at.candidates(), read::float_at(scores, 0));
                 self.tune(first, scores, 1)
             }
             Phase::Try => self.tune(tuned_of(AtLeaf { trainer }), scores, 0),

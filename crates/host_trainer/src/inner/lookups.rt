@@ -16,7 +16,7 @@ use wire::inner::{read, write};
 
 // 1 and the action, or zeros.
 #[tactic(auto, using(crate::proofs::LookupWays::found_put, crate::proofs::LookupWays::none_put))]
-pub fn put_found(out: &mut [u8], at: usize, found: Option<Action>)
+pub fn put_some(out: &mut [u8], at: usize, found: Option<Action>)
     requires { at + 21 ≤ length out.old }
     ensures { out.new ≡ sets out.old at (found_bytes (Ok found)) }
 {
@@ -26,6 +26,18 @@ pub fn put_found(out: &mut [u8], at: usize, found: Option<Action>)
             write::put_action(out, at + 1, a);
         }
         None => write::put(out, at, 21, 0),
+    }
+}
+
+// The same of an answer, zeros for a refused one too.
+#[tactic(auto, unfolding(crate::specs::Lookups::found_bytes))]
+pub fn put_found(out: &mut [u8], at: usize, found: Result<Option<Action>, Refusal>)
+    requires { at + 21 ≤ length out.old }
+    ensures { out.new ≡ sets out.old at (found_bytes found) }
+{
+    match found {
+        Ok(found) => put_some(out, at, found),
+        Err(_) => put_some(out, at, None),
     }
 }
 
@@ -40,7 +52,7 @@ impl<'a> Row for Rules<'a> {
 
     #[tactic(auto, using(crate::proofs::LookupWays::found_count))]
     fn put(&self, out: &mut [u8], at: usize, p: Point) {
-        put_found(out, at, self.find(p));
+        put_some(out, at, self.find(p));
     }
 }
 

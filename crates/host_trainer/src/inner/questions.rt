@@ -1,5 +1,6 @@
 // The question of a trainer, in 31 bytes.
 ghost use Rattle.std.specs.Prelude.{◌≡◌};
+ghost use Rattle.refusal.specs.Guards.{and_then, lent_after};
 ghost use Rattle.host_trainer.specs.Questions.{question_fields, fitted, fields_put, question_put, question_in, question_after};
 ghost use Rattle.host_trainer.specs.Parts.{kind_byte};
 
@@ -49,8 +50,15 @@ fn put_question(q: Question, out: &mut [u8]) -> Result<usize, Refusal>
 }
 
 // What a trainer that was loaded asks for.
-pub fn asked(t: Trainer, out: &mut [u8]) -> Result<usize, Refusal>
+pub fn asked_by(t: Trainer, out: &mut [u8]) -> Result<usize, Refusal>
     ensures { (result ≡ question_in t out.old) × (out.new ≡ question_after t out.old) }
 {
     put_question(t.question()?, out)
+}
+
+// What a load gives asks for; a refused one is refused on.
+pub fn asked(a: Result<Trainer, Refusal>, out: &mut [u8]) -> Result<usize, Refusal>
+    ensures { (result ≡ and_then a (λ t. question_in t out.old)) × (out.new ≡ lent_after a out.old (λ t. question_after t out.old)) }
+{
+    asked_by(a?, out)
 }

@@ -8,6 +8,7 @@ use record::inner::layout::{ENDS_SIZE, Layout, SETTINGS_SIZE, VERSION};
 use refusal::Refusal;
 use rule_tree::NODES;
 use trainer::Trainer;
+use trainer::inner::counting::answered;
 use trainer::settings::Settings;
 use wire::inner::read;
 
@@ -67,14 +68,20 @@ pub fn count_of(bytes: &[u8]) -> usize
     }
 }
 
-// What the counts of the bytes make of a trainer.
+// What the counts of the bytes make of a trainer, which is lent.
 #[tactic(auto, using(crate::proofs::RecordWays::count_few, crate::proofs::RecordWays::counts_lent))]
-pub fn counted_by(t: Trainer, bytes: &[u8]) -> Result<Trainer, Refusal>
-    ensures { result ≡ answer_counts_of t (counts_in bytes.now) }
+pub fn counted_of(t: &Trainer, bytes: &[u8]) -> Result<Trainer, Refusal>
+    ensures { result ≡ answer_counts_of t.now (counts_in bytes.now) }
 {
     let n = count_of(bytes);
     let counts: [u64; NODES] = read::counts_at(bytes, n);
-    t.answer_counts(&counts[..n])
+    answered(t, &counts[..n])
+}
+
+pub fn counted_by(t: Trainer, bytes: &[u8]) -> Result<Trainer, Refusal>
+    ensures { result ≡ answer_counts_of t (counts_in bytes.now) }
+{
+    counted_of(&t, bytes)
 }
 
 #[tactic(auto, unfolding(crate::specs::Records::counts_answered))]

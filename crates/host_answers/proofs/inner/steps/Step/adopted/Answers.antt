@@ -18,5 +18,5 @@ invariant_of-next c =
 
 pub returns : goal.returns
 returns c =
-    c.begun.ensures
+    c.begun_by.ensures
     ∙ law.last_kept c.args.self.settings.now c.args.self.from c.args.kept c.args.score (sym c.kept_of.ensures ∙ c.in-Some.is) c.at.ensures

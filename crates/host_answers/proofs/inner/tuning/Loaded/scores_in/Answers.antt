@@ -18,7 +18,7 @@ tune-requires-clause-leaf c =
 pub tune-requires-clause-before : goal.tune-requires-clause-before
 tune-requires-clause-before c =
     law.own_begun c.args.self.trainer.now c.args.self.ready c.args.scores.now (number_at _ _ Own c.requires.named c.in-Own.is)
-    c.float_at.ensures (rw (c.candidates.ensures.settings, c.candidates.ensures.action) at c.begun-first.ensures)
+    c.float_at.ensures (rw (c.candidates.ensures.settings, c.candidates.ensures.action) at c.begun_by-first.ensures)
 
 pub invariant_of-tuned_of : goal.invariant_of-tuned_of
 invariant_of-tuned_of c =
